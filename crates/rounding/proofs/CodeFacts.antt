@@ -1,0 +1,99 @@
+-- What the code of the operations needs: sizes that keep every sum and product inside 64 bits, and the shorter forms it computes. Assumes nothing.
+use mathlib.Core.Path.{_≡_, refl, sym, ap, _∙_}
+use mathlib.Core.Bool.{Bool, true, false, cond}
+use mathlib.Core.List.{List, [], _∷_}
+use Prim.Native.Nat.{ℕ, zero, suc, _+_, _-_, _*_, _^_, _≤_, _<_}
+use native.Mathlib.Nat.{mul-le-mul, mul-one, mul-assoc, mul-comm, pow-le-pow-right, pow-succ', le-trans, lt-of-lt-of-le, le-of-suc-le-suc, not-suc-le-zero}
+use native.Mathlib.Omega.{arith}
+use lib.ListN.{getD}
+use lib.Dec.{ltb, leb, lit<, lit≤}
+use borrow.Author.Tests.{ltb-true, ltb-false, leb-true, leb-false}
+use Rattle.rounding.specs.declared.Direction.{Direction}
+use Rattle.rounding.specs.declared.Direction.the-variants.{Down, Up}
+use Rattle.rounding.specs.declared.Biased.{Biased}
+use Rattle.rounding.specs.Biased.{InRange, rankOf, Result, SumResult}
+use Rattle.rounding.specs.Round.{extraOf, divideOf, cutOf, roundOf}
+use Rattle.rounding.specs.Operations.{dividendOf, divisorOf, gapOf, alignedOf, sumOf}
+use Rattle.rounding.proofs.WholeQuotients.{divide-most, divide-beside, divide-small}
+use Rattle.rounding.proofs.Greatest.{pow-ten-pos}
+
+pub extra-most : (dir : Direction) (d : ℕ) → extraOf dir d ≤ d
+extra-most Down d = omega arith
+extra-most Up d = omega arith
+
+-- ---- n powers of ten from p on, as a table holds them
+abbrev pub tens : ℕ → ℕ → List ℕ
+tens zero p = []
+tens (suc n) p = p ∷ tens n (p * 10)
+
+pub tens-at : (n p k : ℕ) → k < n → getD (tens n p) k 0 ≡ p * 10 ^ k
+tens-at zero p k h = absurd (not-suc-le-zero h)
+tens-at (suc n) p zero h = sym (mul-one p)
+tens-at (suc n) p (suc k) h = tens-at n (p * 10) k (le-of-suc-le-suc h) ∙ rw pow-succ' (mul-assoc p 10 (10 ^ k))
+
+pub power-most : (k j : ℕ) → k ≤ j → 10 ^ k ≤ 10 ^ j
+power-most k j h = pow-le-pow-right {n = 10} (lit< tt) {i = k} {j = j} h
+
+pub raised-fits : (m k : ℕ) → m < 1000000000 → k ≤ 4 → m * 10 ^ k ≤ 10000000000000
+raised-fits m k h l = mul-le-mul {n₁ = m} {m₁ = 10 ^ k} {n₂ = 1000000000} {m₂ = 10000} (omega arith) (power-most k 4 l)
+
+-- ---- the two sides of a division
+pub record Sizes (n d : ℕ) : Type 0 where
+  pub some : 0 < d
+  pub most : n ≤ 9999999990 * d
+  pub fits : n + d ≤ 18446744073709551615
+
+pub quotient-sizes : (p q : Biased) → InRange p → InRange q → Sizes (dividendOf p q) (divisorOf q)
+quotient-sizes p q a b = cases (leb 100000000 (q .m)) refl
+  where
+    cases : (t : Bool) → leb 100000000 (q .m) ≡ t → Sizes (cond t (p .m * 1000000000) 0) (cond t (q .m) 1)
+    cases true e = let h = leb-true 100000000 (q .m) e in record { some = omega arith; most = omega (arith, a .most); fits = omega (arith, a .most, b .most) }
+    cases false e = record { some = lit< tt; most = lit≤ tt; fits = lit≤ tt }
+
+-- ---- the gap between two exponents, cut at nine places
+abbrev pub placesOf : ℕ → ℕ
+placesOf g = cond (ltb g 9) g 9
+
+pub places-most : (g : ℕ) → placesOf g ≤ 9
+places-most g = cases (ltb g 9) refl
+  where
+    cases : (t : Bool) → ltb g 9 ≡ t → cond t g 9 ≤ 9
+    cases true e = omega (arith, ltb-true g 9 e)
+    cases false e = lit≤ tt
+
+places-same : (dir : Direction) (n g : ℕ) → n < 1000000000 → divideOf dir n (10 ^ placesOf g) ≡ divideOf dir n (10 ^ g)
+places-same dir n g h = cases (ltb g 9) refl
+  where
+    cases : (t : Bool) → ltb g 9 ≡ t → divideOf dir n (10 ^ cond t g 9) ≡ divideOf dir n (10 ^ g)
+    cases true e = refl
+    cases false e = divide-small dir n 1000000000 (10 ^ g) h (lt-of-lt-of-le h (power-most 9 g (ltb-false g 9 e)))
+
+pub aligned-is : (dir : Direction) (p q : Biased) → q .m < 1000000000 → cutOf dir (p .m + divideOf dir (q .m) (10 ^ placesOf (gapOf p q))) (p .x) ≡ alignedOf dir p q
+unfolding alignedOf roundOf
+aligned-is dir p q h =
+    ap (λ (v : ℕ). cutOf dir v (p .x))
+    (ap (λ (v : ℕ). p .m + v) (places-same dir (q .m) (gapOf p q) h) ∙ sym (divide-beside (q .m) (10 ^ gapOf p q) (pow-ten-pos (gapOf p q)) dir (p .m)))
+
+-- what the second summand adds to the first
+pub part-most : (dir : Direction) (n k : ℕ) → n < 1000000000 → divideOf dir n (10 ^ k) ≤ 1000000000
+part-most dir n k h = divide-most n (10 ^ k) (pow-ten-pos k) dir 1000000000 (omega (arith, h, pow-ten-pos k))
+
+-- ---- the summand that comes first, and the other
+module _ (p q : Biased) (a : InRange p) (b : InRange q) where
+  abbrev Ordered : Biased → Biased → Type 0
+  Ordered r s = InRange r × (InRange s × (rankOf s ≤ rankOf r))
+
+  pub ordered : Ordered (cond (leb (rankOf q) (rankOf p)) p q) (cond (leb (rankOf q) (rankOf p)) q p)
+  ordered = cases (leb (rankOf q) (rankOf p)) refl
+    where
+      cases : (t : Bool) → leb (rankOf q) (rankOf p) ≡ t → Ordered (cond t p q) (cond t q p)
+      cases true e = (a, (b, leb-true (rankOf q) (rankOf p) e))
+      cases false e = (b, (a, omega (arith, leb-false (rankOf q) (rankOf p) e)))
+
+  pub ordered-sum : (dir : Direction) (g s r : Biased) → g ≡ cond (leb (rankOf q) (rankOf p)) p q → s ≡ cond (leb (rankOf q) (rankOf p)) q p → (r ≡ alignedOf dir g s) × Result (g .x) r → (r ≡ sumOf dir p q) × SumResult p q r
+  unfolding sumOf
+  ordered-sum dir g s r = cases (leb (rankOf q) (rankOf p))
+    where
+      cases : (t : Bool) → g ≡ cond t p q → s ≡ cond t q p → (r ≡ alignedOf dir g s) × Result (g .x) r → (r ≡ cond t (alignedOf dir p q) (alignedOf dir q p)) × SumResult p q r
+      cases true e f h = let k : g .x ≡ p .x = ap (λ (v : Biased). v .x) e in (cc, record { most = h .1 .most; low = omega (arith, h .1 .low); high = omega (arith, h .1 .high) })
+      cases false e f h = let k : g .x ≡ q .x = ap (λ (v : Biased). v .x) e in (cc, record { most = h .1 .most; low = omega (arith, h .1 .low); high = omega (arith, h .1 .high) })

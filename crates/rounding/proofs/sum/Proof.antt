@@ -1,0 +1,42 @@
+-- `rounding::sum` meets its contract. Assumes nothing.
+use mathlib.Core.Path.{_∙_}
+use Rattle.rounding.proofs.CodeFacts.{ordered, ordered-sum}
+use borrow.Author.Needs.{needs}
+use Rattle.rounding.proofs.sum.Statement.{statement}
+use Rattle.rounding.proofs.sum.Tie as tie
+
+rank-requires : tie.Need-rank-requires
+rank-requires c κs = search needs
+
+rank-requires-2 : tie.Need-rank-requires-2
+rank-requires-2 c κs = search needs
+
+choose-requires : tie.Need-choose-requires
+choose-requires c κs = search needs
+
+choose-requires-2 : tie.Need-choose-requires-2
+choose-requires-2 c κs = search needs
+
+aligned-requires : tie.Need-aligned-requires
+aligned-requires c κs =
+    let s = c .before .before .before .before in
+    rw (c .before .choose .ensures, c .choose2 .ensures, c .before .before .rank2 .ensures, c .before .before .before .rank .ensures) (ordered (s .args .p) (s .args .q) (s .pre .0) (s .pre .1))
+
+returns : tie.Need-returns
+returns c =
+    let s = c .before .before .before .before .before in
+    let k = c .before .before .before .before .rank .ensures in
+    let l = c .before .before .before .rank2 .ensures in
+    ordered-sum (s .args .p) (s .args .q) (s .pre .0) (s .pre .1) (s .args .dir) (c .before .before .choose .result) (c .before .choose2 .result) (c .aligned .result)
+    (c .before .before .choose .ensures ∙ rw (k, l)) (c .before .choose2 .ensures ∙ rw (k, l)) (c .aligned .ensures)
+
+pub sum-spec : {M : Type 1} → statement M
+sum-spec =
+    tie.close
+    (tie.spec
+    rank-requires
+    rank-requires-2
+    choose-requires
+    choose-requires-2
+    aligned-requires
+    returns)

@@ -1,0 +1,185 @@
+// Numbers of nine digits with a biased exponent, multiplied, divided and added in a direction.
+// These are the operations that decimals rest on. Each asks that its operands are in range:
+// the crate `decimal` tests operands, and a formula's operands are in range by proof.
+ghost use mathlib.Core.Path.{_≡_};
+ghost use Prim.Native.Nat.{_+_, _-_, _*_, _^_, _≤_, _<_};
+ghost use lib.Dec.{leb};
+ghost use Rattle.rounding.specs.Round.{extraOf, divideOf, cutOf};
+ghost use Rattle.rounding.specs.Biased.{Working, InRange, Result, SumResult, rankOf, atMostOf};
+ghost use Rattle.rounding.specs.Operations.{productOf, quotientOf, alignedOf, sumOf};
+ghost use Rattle.rounding.specs.WorkingForm.{raiseBy, nineOf, NineResult};
+ghost use mathlib.Core.Bool.{cond};
+
+// Which way a result is rounded.
+pub enum Direction {
+    Down,
+    Up,
+}
+
+// The number m * 10^(x - 3000). Zero is m = 0, with any x.
+pub struct Biased {
+    pub m: u64,
+    pub x: u64,
+}
+
+// 10^k.
+fn power(k: u64) -> u64
+    requires { ⌜ k ≤ 9 ⌝ }
+    ensures { λ r. ⌜ r ≡ 10 ^ k ⌝ }
+{
+    POWERS[k as usize]
+}
+
+// The powers of ten from 10^0 to 10^9: the only place where they stand.
+const POWERS: [u64; 10] = [
+    1,
+    10,
+    100,
+    1_000,
+    10_000,
+    100_000,
+    1_000_000,
+    10_000_000,
+    100_000_000,
+    1_000_000_000,
+];
+
+// What is added to a dividend so that the quotient is rounded in the direction.
+fn extra(d: u64, dir: Direction) -> u64
+    requires { ⌜ 0 < d ⌝ }
+    ensures { λ r. ⌜ r ≡ extraOf dir d ⌝ }
+{
+    match dir {
+        Direction::Down => 0,
+        Direction::Up => d - 1,
+    }
+}
+
+// The whole quotient n / d, rounded.
+fn divide(n: u64, d: u64, dir: Direction) -> u64
+    requires { ⌜ (0 < d) × (n + d ≤ 18446744073709551615) ⌝ }
+    ensures { λ r. ⌜ r ≡ divideOf dir n d ⌝ }
+{
+    (n + extra(d, dir)) / d
+}
+
+// q * 10^(x - 3000) cut to nine digits, where q has at most ten. The shorter quotient is
+// worked out in any case, so that the choice is no branch.
+fn cut(q: u64, x: u64, dir: Direction) -> Biased
+    requires { ⌜ (q ≤ 9999999990) × (x ≤ 10000) ⌝ }
+    ensures { λ r. ⌜ (r ≡ cutOf dir q x) × Result x r ⌝ }
+{
+    let tenth = divide(q, 10, dir);
+    if q < 1_000_000_000 {
+        return Biased { m: q, x };
+    }
+    Biased { m: tenth, x: x + 1 }
+}
+
+// p * q.
+pub fn product(p: Biased, q: Biased, dir: Direction) -> Biased
+    requires { ⌜ InRange p × InRange q ⌝ }
+    ensures { λ r. ⌜ (r ≡ productOf dir p q) × Result (p .x + q .x - 2992) r ⌝ }
+{
+    let n = p.m * q.m;
+    let x = p.x + q.x - 2992;
+    cut(divide(n, 100_000_000, dir), x, dir)
+}
+
+// p / q; zero where q is zero.
+pub fn quotient(p: Biased, q: Biased, dir: Direction) -> Biased
+    requires { ⌜ InRange p × InRange q ⌝ }
+    ensures { λ r. ⌜ (r ≡ quotientOf dir p q) × Result (p .x + 2991 - q .x) r ⌝ }
+{
+    let some = 100_000_000 <= q.m;
+    let n = pick(some, p.m * 1_000_000_000, 0);
+    let d = pick(some, q.m, 1);
+    let x = p.x + 2991 - q.x;
+    cut(divide(n, d, dir), x, dir)
+}
+
+// a if the test holds, else b.
+fn pick(test: bool, a: u64, b: u64) -> u64
+    ensures { λ r. ⌜ r ≡ cond test a b ⌝ }
+{
+    if test {
+        return a;
+    }
+    b
+}
+
+// The exponent as it counts in an order: zero comes before every other number.
+fn rank(r: Biased) -> u64
+    ensures { λ k. ⌜ k ≡ rankOf r ⌝ }
+{
+    let m = r.m;
+    let x = r.x;
+    pick(m == 0, 0, x)
+}
+
+// The number itself if the test holds, else the other one.
+fn choose(test: bool, p: Biased, q: Biased) -> Biased
+    ensures { λ r. ⌜ r ≡ cond test p q ⌝ }
+{
+    if test {
+        return p;
+    }
+    q
+}
+
+// p + q, where q does not come after p in the order of exponents. A gap of nine places or more
+// leaves of q only that something is there, so it counts as nine.
+fn aligned(p: Biased, q: Biased, dir: Direction) -> Biased
+    requires { ⌜ InRange p × (InRange q × (rankOf q ≤ rankOf p)) ⌝ }
+    ensures { λ r. ⌜ (r ≡ alignedOf dir p q) × Result (p .x) r ⌝ }
+{
+    let gap = rank(p) - rank(q);
+    let places = pick(gap < 9, gap, 9);
+    let part = divide(q.m, power(places), dir);
+    cut(p.m + part, p.x, dir)
+}
+
+// p + q.
+pub fn sum(p: Biased, q: Biased, dir: Direction) -> Biased
+    requires { ⌜ InRange p × InRange q ⌝ }
+    ensures { λ r. ⌜ (r ≡ sumOf dir p q) × SumResult p q r ⌝ }
+{
+    let first = rank(q) <= rank(p);
+    let great = choose(first, p, q);
+    let small = choose(first, q, p);
+    aligned(great, small, dir)
+}
+
+// Whether p is worth at most q.
+pub fn at_most(p: Biased, q: Biased) -> bool
+    requires { ⌜ (Working p × (0 < p .x)) × (Working q × (0 < q .x)) ⌝ }
+    ensures { λ r. ⌜ r ≡ atMostOf p q ⌝ }
+{
+    let a = rank(p);
+    let b = rank(q);
+    if a == b {
+        return p.m <= q.m;
+    }
+    a < b
+}
+
+// The number times 10^k, k from 1 to 4, where that leaves at most nine digits.
+fn raised(r: Biased, k: u64) -> Biased
+    requires { ⌜ (r .m < 1000000000) × ((k ≤ 4) × (k ≤ r .x)) ⌝ }
+    ensures { λ s. ⌜ s ≡ raiseBy k r ⌝ }
+{
+    let m = r.m * power(k);
+    let x = r.x - k;
+    choose(m < 1_000_000_000, Biased { m, x }, r)
+}
+
+// The same value with nine digits, of a number of one to nine.
+pub fn nine(r: Biased) -> Biased
+    requires { ⌜ (r .m < 1000000000) × (11 ≤ r .x) ⌝ }
+    ensures { λ s. ⌜ (s ≡ nineOf r) × NineResult r s ⌝ }
+{
+    let a = raised(r, 4);
+    let b = raised(a, 4);
+    let c = raised(b, 2);
+    raised(c, 1)
+}
