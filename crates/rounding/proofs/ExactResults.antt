@@ -7,17 +7,14 @@ use native.Mathlib.Nat.{mul-le-mul, mul-le-mul-right, mul-pos, zero-mul, mul-zer
 use native.Mathlib.Omega.{arith}
 use lib.Pow.{pow-add}
 use lib.Dec.{eqb, ltb, leb, lit<, lit≤}
-use borrow.Author.Tests.{eq-eqb, ne-eqb, le-leb, lt-leb, leb-true, leb-false}
+use borrow.Author.Tests.{eq-eqb, ne-eqb, le-leb, lt-leb, lt-ltb, leb-true, leb-false}
 use Rattle.rounding.specs.declared.Direction.{Direction}
 use Rattle.rounding.specs.declared.Biased.{Biased}
-use Rattle.rounding.specs.Biased.{worth, Nine, Working, InRange, rankOf}
-use Rattle.rounding.specs.Round.{Rounds, divideOf, roundOf}
+use Rattle.rounding.specs.Biased.{worth, one, Nine, Working, InRange, rankOf}
+use Rattle.rounding.specs.Round.{Rounds, divideOf, cutOf, roundOf}
 use Rattle.rounding.specs.Operations.{productOf, quotientOf, dividendOf, divisorOf, gapOf, alignedOf, sumOf}
+use Rattle.rounding.proofs.WholeQuotients.{divide-beside, divide-zero}
 use Rattle.rounding.proofs.Greatest.{pow-ten-pos, rounds-same, round-rounds, zero-rounds, round-zero}
-
--- 1 in units of 10^-3000. It stays shut: written out it is too long for `omega`
-unfoldable pub one : ℕ
-one = 10 ^ 3000
 
 pub one-pos : 0 < one
 unfolding one
@@ -91,10 +88,10 @@ module _ (dir : Direction) (p q : Biased) (a : InRange p) (b : InRange q) where
       (round-rounds dir (p .m * 1000000000) (q .m) (p .x + 2991 - q .x) positive (omega (arith, f .least, g .most)) (omega (arith, f .most, g .least))))
 
 -- ---- the sum
-rank-zero : (r : Biased) → r .m ≡ 0 → rankOf r ≡ 0
+pub rank-zero : (r : Biased) → r .m ≡ 0 → rankOf r ≡ 0
 rank-zero r z = rw (eq-eqb (r .m) 0 z)
 
-rank-nine : (r : Biased) → Nine r → rankOf r ≡ r .x
+pub rank-nine : (r : Biased) → Nine r → rankOf r ≡ r .x
 rank-nine r g = rw (ne-eqb (r .m) 0 (omega (arith, g .least)))
 
 module _ (dir : Direction) (p q : Biased) where
@@ -150,3 +147,28 @@ sum-rounds dir p q a b f g = cases (leb (rankOf q) (rankOf p)) refl
     cases : (t : Bool) → leb (rankOf q) (rankOf p) ≡ t → Rounds dir (worth p + worth q) 1 (cond t (alignedOf dir p q) (alignedOf dir q p))
     cases true e = aligned-rounds dir p q f g (omega (arith, b .low)) (leb-true (rankOf q) (rankOf p) e)
     cases false e = rw (add-comm (worth p) (worth q)) (aligned-rounds dir q p g f (omega (arith, a .low)) (omega (arith, leb-false (rankOf q) (rankOf p) e)))
+
+-- ---- zero and another number: the other number
+aligned-alone : (dir : Direction) (p q : Biased) → Nine p → q .m ≡ 0 → alignedOf dir p q ≡ p
+unfolding alignedOf roundOf cutOf
+aligned-alone dir p q f z = rw (quotient, lt-ltb (p .m) 1000000000 (f .most))
+  where
+    quotient : divideOf dir (p .m * 10 ^ gapOf p q + q .m) (10 ^ gapOf p q) ≡ p .m
+    quotient = divide-beside (q .m) (10 ^ gapOf p q) (pow-ten-pos (gapOf p q)) dir (p .m) ∙ ap (λ (v : ℕ). p .m + divideOf dir v (10 ^ gapOf p q)) z ∙ ap (λ (v : ℕ). p .m + v) (divide-zero dir (10 ^ gapOf p q) (pow-ten-pos (gapOf p q))) ∙ add-zero (p .m)
+
+pub sum-zero-right : (dir : Direction) (p q : Biased) → Nine p → q .m ≡ 0 → sumOf dir p q ≡ p
+unfolding sumOf
+sum-zero-right dir p q f z = ap (λ (t : Bool). cond t (alignedOf dir p q) (alignedOf dir q p)) (le-leb (rankOf q) (rankOf p) (let e = rank-zero q z in omega (arith, e))) ∙ aligned-alone dir p q f z
+
+pub sum-zero-left : (dir : Direction) (p q : Biased) → p .m ≡ 0 → Nine q → 0 < q .x → sumOf dir p q ≡ q
+unfolding sumOf
+sum-zero-left dir p q z g h = ap (λ (t : Bool). cond t (alignedOf dir p q) (alignedOf dir q p)) (lt-leb (rankOf q) (rankOf p) (let e = rank-zero p z in let f = rank-nine q g in omega (arith, e, f))) ∙ aligned-alone dir q p g z
+
+pub sum-zero-both : (dir : Direction) (p q : Biased) → p .m ≡ 0 → q .m ≡ 0 → sumOf dir p q .m ≡ 0
+unfolding sumOf alignedOf
+sum-zero-both dir p q y z =
+    ap (λ (t : Bool). cond t (alignedOf dir p q) (alignedOf dir q p) .m) (le-leb (rankOf q) (rankOf p) (let e = rank-zero q z in omega (arith, e))) ∙
+    ap (λ (r : Biased). r .m) (ap (λ (n : ℕ). roundOf dir n (10 ^ gapOf p q) (p .x)) (none (p .m) (q .m) (10 ^ gapOf p q) y z) ∙ round-zero dir (10 ^ gapOf p q) (p .x) (pow-ten-pos (gapOf p q)))
+  where
+    none : (m n g : ℕ) → m ≡ 0 → n ≡ 0 → m * g + n ≡ 0
+    none m n g y z = omega (arith, ap (λ (v : ℕ). v * g) y)

@@ -103,6 +103,15 @@ rounds-same dir n d n′ d′ r same h h′ f = record {
     scaled : (p : ℕ) → n′ * p * d ≡ n * p * d′
     scaled p = omega (arith, ap (λ (v : ℕ). v * p) same)
 
+-- another working decimal of the same worth
+pub rounds-worth : (dir : Direction) (n d : ℕ) (r r′ : Biased) → worth r′ ≡ worth r → Working r′ → Rounds dir n d r → Rounds dir n d r′
+rounds-worth dir n d r r′ e g f = record {
+  working = g;
+  side = rw e (f .side);
+  best = λ w j h s. rw e (f .best w j h s);
+  near = rw e (f .near);
+}
+
 -- ---- the rounding of a fraction from 10^8 to 9,999,999,990. A quotient that is 10^9 after rounding up is 10^8 at the next exponent
 module _ (dir : Direction) (n d x : ℕ) (h : 0 < d) (l : 100000000 * d ≤ n) (u : n ≤ 9999999990 * d) where
   abbrev q : ℕ

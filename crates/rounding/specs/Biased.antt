@@ -10,6 +10,10 @@ use Rattle.rounding.specs.declared.Biased.{Biased}
 abbrev pub worth : Biased → ℕ
 worth r = r .m * 10 ^ r .x
 
+-- 1 in these units. It stays shut in proofs: written out it is too long for `omega`
+unfoldable pub one : ℕ
+one = 10 ^ 3000
+
 -- m from 100,000,000 to 999,999,999
 pub record Nine (r : Biased) : Type 0 where
   pub least : 100000000 ≤ r .m

@@ -1,0 +1,6 @@
+pub mod Bias
+pub mod OperandFacts
+pub mod Laws
+pub mod MarkedFigures
+pub mod Approximation
+pub mod CoreOperations

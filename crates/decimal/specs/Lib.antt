@@ -1,0 +1,5 @@
+pub mod Exponent
+pub mod Decimal
+pub mod Fraction
+pub mod Lists
+pub mod Figures
