@@ -22,27 +22,27 @@ pub struct Biased {
     pub x: u64,
 }
 
-// 10^k.
+// a if the test holds, else b.
+fn pick(test: bool, a: u64, b: u64) -> u64
+    ensures { λ r. ⌜ r ≡ cond test a b ⌝ }
+{
+    if test {
+        return a;
+    }
+    b
+}
+
+// 10^k: the only place where powers of ten are made. Each binary digit of k chooses a factor.
 fn power(k: u64) -> u64
     requires { ⌜ k ≤ 9 ⌝ }
     ensures { λ r. ⌜ r ≡ 10 ^ k ⌝ }
 {
-    POWERS[k as usize]
+    let a = pick(k % 2 == 1, 10, 1);
+    let b = pick(k / 2 % 2 == 1, 100, 1);
+    let c = pick(k / 4 % 2 == 1, 10_000, 1);
+    let d = pick(k / 8 == 1, 100_000_000, 1);
+    a * b * (c * d)
 }
-
-// The powers of ten from 10^0 to 10^9: the only place where they stand.
-const POWERS: [u64; 10] = [
-    1,
-    10,
-    100,
-    1_000,
-    10_000,
-    100_000,
-    1_000_000,
-    10_000_000,
-    100_000_000,
-    1_000_000_000,
-];
 
 // What is added to a dividend so that the quotient is rounded in the direction.
 fn extra(d: u64, dir: Direction) -> u64
@@ -63,17 +63,18 @@ fn divide(n: u64, d: u64, dir: Direction) -> u64
     (n + extra(d, dir)) / d
 }
 
-// q * 10^(x - 3000) cut to nine digits, where q has at most ten. The shorter quotient is
-// worked out in any case, so that the choice is no branch.
+// q * 10^(x - 3000) cut to nine digits, where q has at most ten. Both quotients are worked out
+// and one is picked, so that no branch depends on the digits.
 fn cut(q: u64, x: u64, dir: Direction) -> Biased
     requires { ⌜ (q ≤ 9999999990) × (x ≤ 10000) ⌝ }
     ensures { λ r. ⌜ (r ≡ cutOf dir q x) × Result x r ⌝ }
 {
     let tenth = divide(q, 10, dir);
-    if q < 1_000_000_000 {
-        return Biased { m: q, x };
+    let short = q < 1_000_000_000;
+    Biased {
+        m: pick(short, q, tenth),
+        x: pick(short, x, x + 1),
     }
-    Biased { m: tenth, x: x + 1 }
 }
 
 // p * q.
@@ -96,16 +97,6 @@ pub fn quotient(p: Biased, q: Biased, dir: Direction) -> Biased
     let d = pick(some, q.m, 1);
     let x = p.x + 2991 - q.x;
     cut(divide(n, d, dir), x, dir)
-}
-
-// a if the test holds, else b.
-fn pick(test: bool, a: u64, b: u64) -> u64
-    ensures { λ r. ⌜ r ≡ cond test a b ⌝ }
-{
-    if test {
-        return a;
-    }
-    b
 }
 
 // The exponent as it counts in an order: zero comes before every other number.

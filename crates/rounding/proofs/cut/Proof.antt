@@ -1,10 +1,9 @@
 -- `rounding::cut` meets its contract. Assumes nothing.
-use mathlib.Core.Path.{sym}
-use native.Mathlib.Omega.{arith}
-use lib.Dec.{lit<}
-use borrow.Author.Tests.{lt-ltb, le-ltb}
+use mathlib.Core.Path.{_≡_, _∙_}
+use Rattle.rounding.specs.declared.Biased.{Biased}
 use Rattle.rounding.specs.Round.{cutOf}
-use Rattle.rounding.proofs.WholeQuotients.{divide-most}
+use Rattle.rounding.proofs.CodeFacts.{cut-is}
+use Rattle.rounding.proofs.Exponents.{cut-result}
 use borrow.Author.Needs.{needs}
 use Rattle.rounding.proofs.cut.Statement.{statement}
 use Rattle.rounding.proofs.cut.Tie as tie
@@ -12,20 +11,21 @@ use Rattle.rounding.proofs.cut.Tie as tie
 divide-requires : tie.Need-divide-requires
 divide-requires c κs = search needs
 
+pick-requires : tie.Need-pick-requires
+pick-requires c κs = search needs
+
+add-pick : tie.Need-add-pick
+add-pick c = search needs
+
+pick-requires-2 : tie.Need-pick-requires-2
+pick-requires-2 c κs = search needs
+
 returns : tie.Need-returns
-unfolding cutOf
-returns c = (rw (lt-ltb _ _ (c .if1 .taken)), record { most = c .if1 .taken; low = omega arith; high = omega arith })
-
-add-t6 : tie.Need-add-t6
-add-t6 c = search needs
-
-returns-2 : tie.Need-returns-2
-unfolding cutOf
-returns-2 c =
-    let s = c .before .before in (
-      rw (le-ltb _ _ (c .if1 .left), ← (c .before .divide .ensures)),
-      record { most = omega (arith, divide-most (s .args .q) 10 (lit< tt) (s .args .dir) 999999999 (omega (arith, s .pre .0)), c .before .divide .ensures); low = omega arith; high = omega arith },
-    )
+returns c =
+    let s = c .before .before .before in
+    let a = s .args in
+    let e : record { m = c .before .pick .result; x = c .pick2 .result } ≡ cutOf (a .dir) (a .q) (a .x) = rw (c .before .pick .ensures, c .pick2 .ensures, c .before .before .divide .ensures) (cut-is (a .dir) (a .q) (a .x)) in
+    (e, rw e (cut-result (a .dir) (a .q) (a .x) (s .pre .0)))
 
 pub cut-spec : {M : Type 1} → statement M
-cut-spec = tie.close (tie.spec divide-requires returns add-t6 returns-2)
+cut-spec = tie.close (tie.spec divide-requires pick-requires add-pick pick-requires-2 returns)

@@ -1,20 +1,45 @@
--- `rounding::power` meets its contract: the table's rule is one lemma over its length. Assumes nothing.
-use mathlib.Core.Path.{_∙_}
-use native.Mathlib.Nat.{one-mul}
+-- `rounding::power` meets its contract: the ten powers are one computed test. Assumes nothing.
 use native.Mathlib.Omega.{arith}
-use Rattle.rounding.proofs.CodeFacts.{tens-at}
+use Rattle.rounding.proofs.CodeFacts.{power-products, power-is}
 use borrow.Author.Needs.{needs}
 use Rattle.rounding.proofs.power.Statement.{statement}
 use Rattle.rounding.proofs.power.Tie as tie
 
-mul-result : tie.Need-mul-result
-mul-result c = search needs
+pick-requires : tie.Need-pick-requires
+pick-requires c κs = search needs
 
-array-read-result : tie.Need-array-read-result
-array-read-result c = search needs
+pick-requires-2 : tie.Need-pick-requires-2
+pick-requires-2 c κs = search needs
+
+pick-requires-3 : tie.Need-pick-requires-3
+pick-requires-3 c κs = search needs
+
+pick-requires-4 : tie.Need-pick-requires-4
+pick-requires-4 c κs = search needs
+
+mul-result : tie.Need-mul-result
+mul-result c = let p = power-products (c .before .before .before .before .args .k) (c .before .before .before .pick .ensures) (c .before .before .pick2 .ensures) (c .before .pick3 .ensures) (c .pick4 .ensures) in omega (arith, p .low)
+
+mul-result-2 : tie.Need-mul-result-2
+mul-result-2 c = let p = power-products (c .before .before .before .before .args .k) (c .before .before .before .pick .ensures) (c .before .before .pick2 .ensures) (c .before .pick3 .ensures) (c .pick4 .ensures) in omega (arith, p .high)
+
+mul-result-3 : tie.Need-mul-result-3
+mul-result-3 c = let p = power-products (c .before .before .before .before .args .k) (c .before .before .before .pick .ensures) (c .before .before .pick2 .ensures) (c .before .pick3 .ensures) (c .pick4 .ensures) in omega (arith, p .all)
 
 returns : tie.Need-returns
-returns c = tens-at 10 1 (c .args .k) (omega arith) ∙ one-mul _
+returns c =
+    let k = c .before .before .before .before in
+    rw (c .before .before .before .pick .ensures, c .before .before .pick2 .ensures, c .before .pick3 .ensures, c .pick4 .ensures) (power-is (k .args .k) (k .pre))
 
 pub power-spec : {M : Type 1} → statement M
-power-spec = tie.close (tie.spec mul-result array-read-result returns)
+power-spec =
+    tie.close
+    (tie.spec
+    pick-requires
+    pick-requires-2
+    pick-requires-3
+    pick-requires-4
+    mul-result
+    mul-result-2
+    mul-result-3
+    returns)
