@@ -1,5 +1,7 @@
 -- Products and sums of lists, from the left: rounded in a direction, and exactly.
+use mathlib.Core.Bool.{cond}
 use mathlib.Core.List.{List, [], _∷_}
+use lib.Dec.{eqb}
 use Rattle.rounding.specs.declared.Direction.{Direction}
 use Rattle.decimal.specs.declared.Decimal.{Decimal}
 use Rattle.decimal.specs.Decimal.{zeroOf, mulOf, addOf}
@@ -14,6 +16,12 @@ abbrev pub productOf : Direction → List Decimal → Decimal
 productOf dir [] = zeroOf
 productOf dir (a ∷ bs) = multiplied dir a bs
 
+-- summands added in order, zeros skipped
+abbrev pub summed : Direction → Decimal → List Decimal → Decimal
+summed dir a [] = a
+summed dir a (b ∷ bs) = summed dir (cond (eqb (b .m) 0) a (addOf a b dir)) bs
+
+-- all summands added in order
 abbrev pub added : Direction → Decimal → List Decimal → Decimal
 added dir a [] = a
 added dir a (b ∷ bs) = added dir (addOf a b dir) bs

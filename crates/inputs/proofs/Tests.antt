@@ -1,0 +1,46 @@
+-- Tests joined by `&&`, and what a valid decimal is. Assumes nothing.
+use mathlib.Core.Path.{_≡_, refl, sym, ap, _∙_}
+use mathlib.Core.Bool.{Bool, true, false, not, _&&_}
+use mathlib.Core.List.{List, [], _∷_, _++_}
+use Prim.Native.Nat.{ℕ, zero, suc, _≤_, _<_}
+use native.Mathlib.Omega.{arith}
+use lib.Dec.{eqb, leb}
+use lib.ListN.{getD}
+use borrow.Author.Tests.{leb-true}
+use Rattle.decimal.specs.declared.Decimal.{Decimal}
+use Rattle.decimal.specs.Exponent.{raised}
+use Rattle.decimal.specs.Decimal.{zeroOf}
+use Rattle.inputs.specs.Valid.{validOf, allValid}
+
+pub and-true : (b : Bool) → b && true ≡ b
+and-true true = refl
+and-true false = refl
+
+pub and-split : (a b : Bool) → a && b ≡ true → (a ≡ true) × (b ≡ true)
+and-split true b h = (refl, h)
+and-split false b h = absurd (let z : _≡_ {A = ℕ} 0 1 = cc in omega arith)
+
+-- ---- a valid decimal has at most nine digits and an exponent from -20 to 20
+pub record Small (d : Decimal) : Type 0 where
+  pub digits : d .m < 1000000000
+  pub low : 2980 ≤ raised (d .e)
+  pub high : raised (d .e) ≤ 3020
+
+pub valid-small : (d : Decimal) → validOf d ≡ true → Small d
+unfolding validOf
+valid-small d h =
+    let a = and-split (leb (d .m) 999999999) _ h in
+    let b = and-split (leb 2980 (raised (d .e)) && leb (raised (d .e)) 3020) _ (a .1) in
+    let c = and-split (leb 2980 (raised (d .e))) _ (b .0) in
+    record { digits = omega (arith, leb-true (d .m) 999999999 (a .0)); low = leb-true 2980 (raised (d .e)) (c .0); high = leb-true (raised (d .e)) 3020 (c .1) }
+
+-- ---- lists of decimals
+pub valid-at : (l : List Decimal) → allValid l ≡ true → (n : ℕ) → validOf (getD l n zeroOf) ≡ true
+unfolding validOf
+valid-at [] v n = refl
+valid-at (d ∷ ds) v zero = and-split (validOf d) (allValid ds) v .0
+valid-at (d ∷ ds) v (suc n) = valid-at ds (and-split (validOf d) (allValid ds) v .1) n
+
+pub valid-append : (x y : List Decimal) → allValid x ≡ true → allValid y ≡ true → allValid (x ++ y) ≡ true
+valid-append [] y h k = k
+valid-append (d ∷ ds) y h k = let a = and-split (validOf d) (allValid ds) h in rw (a .0) (valid-append ds y (a .1) k)

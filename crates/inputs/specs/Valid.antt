@@ -1,0 +1,14 @@
+-- The rule of a decimal in a file or record: m at most 999,999,999, e from -20 to 20, and m = 0 only with e = 0.
+use mathlib.Core.Bool.{Bool, true, not, _&&_}
+use mathlib.Core.List.{List, [], _∷_}
+use lib.Dec.{eqb, leb}
+use Rattle.decimal.specs.declared.Decimal.{Decimal}
+use Rattle.decimal.specs.Exponent.{raised}
+
+-- e is counted from -3000 here: 2980 is -20, 3000 is 0, 3020 is 20
+unfoldable pub validOf : Decimal → Bool
+validOf d = leb (d .m) 999999999 && ((leb 2980 (raised (d .e)) && leb (raised (d .e)) 3020) && not (eqb (d .m) 0 && not (eqb (raised (d .e)) 3000)))
+
+abbrev pub allValid : List Decimal → Bool
+allValid [] = true
+allValid (d ∷ ds) = validOf d && allValid ds

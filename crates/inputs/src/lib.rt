@@ -1,0 +1,227 @@
+// A land-use scenario and a contaminant record, as a file or a caller gives them.
+use decimal::Decimal;
+use outcome::Refusal;
+ghost use mathlib.Core.Bool.{_&&_};
+ghost use mathlib.Core.Path.{_≡_};
+ghost use Rattle.inputs.specs.BuiltIn.{builtInOf};
+ghost use Rattle.inputs.specs.Inputs.{scenarioDecimals, contaminantDecimals};
+ghost use Rattle.inputs.specs.Valid.{validOf, allValid};
+
+// The twelve factors of a scenario. Zero means not known, or not part of this scenario.
+pub struct Scenario {
+    // Exposure frequency, days per year, and duration, years.
+    pub ef: Decimal,
+    pub ed: Decimal,
+    // Body weight, kg, and averaging time, years.
+    pub bw: Decimal,
+    pub at: Decimal,
+    // Ingestion, mg of soil or litres of water a day, and inhalation, m³ a day.
+    pub ir: Decimal,
+    pub ira: Decimal,
+    // Particulate emission factor, m³/kg.
+    pub pef: Decimal,
+    // Hours a day, outdoors or with skin in water; dose reduction factor; skin, cm².
+    pub et: Decimal,
+    pub rf: Decimal,
+    pub sa: Decimal,
+    // Target risk and target hazard.
+    pub tr: Decimal,
+    pub thi: Decimal,
+}
+
+// A contaminant: its class (1 chemical, 2 radionuclide), its id, and eight decimals. Zero means not known.
+pub struct Contaminant {
+    pub class: u32,
+    pub id: u32,
+    // Slope factors: oral, inhaled, external.
+    pub sfo: Decimal,
+    pub sfi: Decimal,
+    pub sfx: Decimal,
+    // Reference doses: oral, inhaled.
+    pub rfdo: Decimal,
+    pub rfdi: Decimal,
+    // Volatilization factor, m³/kg, and skin permeability, cm/hr.
+    pub vf: Decimal,
+    pub pc: Decimal,
+    // Measured concentration.
+    pub c: Decimal,
+}
+
+// A built-in scenario, or refusal 11 with zero decimals.
+pub struct BuiltIn {
+    pub refusal: Refusal,
+    pub scenario: Scenario,
+}
+
+impl Scenario {
+    // Office worker (source 002, Table 5.1.1).
+    pub const OFFICE_WORKER: Scenario = Scenario {
+        ef: Decimal { m: 250, e: 0 },
+        ed: Decimal { m: 25, e: 0 },
+        bw: Decimal { m: 70, e: 0 },
+        at: Decimal { m: 70, e: 0 },
+        ir: Decimal { m: 50, e: 0 },
+        ira: Decimal { m: 20, e: 0 },
+        pef: Decimal { m: 428, e: 7 },
+        et: Decimal { m: 0, e: 0 },
+        rf: Decimal { m: 0, e: 0 },
+        sa: Decimal { m: 0, e: 0 },
+        tr: Decimal { m: 1, e: -6 },
+        thi: Decimal { m: 1, e: 0 },
+    };
+
+    // Archeologist (source 004).
+    pub const ARCHEOLOGIST: Scenario = Scenario {
+        ef: Decimal { m: 250, e: 0 },
+        ed: Decimal { m: 1, e: 0 },
+        bw: Decimal { m: 70, e: 0 },
+        at: Decimal { m: 70, e: 0 },
+        ir: Decimal { m: 200, e: 0 },
+        ira: Decimal { m: 15, e: 0 },
+        pef: Decimal { m: 5, e: 6 },
+        et: Decimal { m: 8, e: 0 },
+        rf: Decimal { m: 1, e: 0 },
+        sa: Decimal { m: 0, e: 0 },
+        tr: Decimal { m: 1, e: -6 },
+        thi: Decimal { m: 1, e: 0 },
+    };
+
+    // Bird watcher (source 004).
+    pub const BIRD_WATCHER: Scenario = Scenario {
+        ef: Decimal { m: 50, e: 0 },
+        ed: Decimal { m: 5, e: 0 },
+        bw: Decimal { m: 70, e: 0 },
+        at: Decimal { m: 70, e: 0 },
+        ir: Decimal { m: 25, e: 0 },
+        ira: Decimal { m: 5, e: 0 },
+        pef: Decimal { m: 2, e: 7 },
+        et: Decimal { m: 4, e: 0 },
+        rf: Decimal { m: 8, e: -1 },
+        sa: Decimal { m: 0, e: 0 },
+        tr: Decimal { m: 1, e: -6 },
+        thi: Decimal { m: 1, e: 0 },
+    };
+
+    // The scenario with every decimal zero.
+    pub const BLANK: Scenario = Scenario {
+        ef: Decimal { m: 0, e: 0 },
+        ed: Decimal { m: 0, e: 0 },
+        bw: Decimal { m: 0, e: 0 },
+        at: Decimal { m: 0, e: 0 },
+        ir: Decimal { m: 0, e: 0 },
+        ira: Decimal { m: 0, e: 0 },
+        pef: Decimal { m: 0, e: 0 },
+        et: Decimal { m: 0, e: 0 },
+        rf: Decimal { m: 0, e: 0 },
+        sa: Decimal { m: 0, e: 0 },
+        tr: Decimal { m: 0, e: 0 },
+        thi: Decimal { m: 0, e: 0 },
+    };
+
+    // The built-in scenario of a number from 1 to 3.
+    pub fn built_in(number: u32) -> BuiltIn
+        ensures { λ b. ⌜ b ≡ builtInOf number ⌝ }
+    {
+        if number == 1 {
+            return BuiltIn {
+                refusal: Refusal::Accepted,
+                scenario: Scenario::OFFICE_WORKER,
+            };
+        }
+        if number == 2 {
+            return BuiltIn {
+                refusal: Refusal::Accepted,
+                scenario: Scenario::ARCHEOLOGIST,
+            };
+        }
+        if number == 3 {
+            return BuiltIn {
+                refusal: Refusal::Accepted,
+                scenario: Scenario::BIRD_WATCHER,
+            };
+        }
+        BuiltIn {
+            refusal: Refusal::Scenario,
+            scenario: Scenario::BLANK,
+        }
+    }
+}
+
+// Both tests. No branch depends on them.
+pub fn both(a: bool, b: bool) -> bool
+    ensures { λ r. ⌜ r ≡ a && b ⌝ }
+{
+    if a {
+        return b;
+    }
+    false
+}
+
+// Whether a decimal keeps the rule of a file or record.
+pub fn valid(d: Decimal) -> bool
+    ensures { λ b. ⌜ b ≡ validOf d ⌝ }
+{
+    let m = d.m;
+    let e = d.e;
+    let x = decimal::biased_exponent(e);
+    let low = 2980 <= x;
+    let high = x <= 3020;
+    let range = both(low, high);
+    let zero = both(m == 0, x != 3000);
+    both(m <= 999_999_999, both(range, !zero))
+}
+
+// Whether the twelve decimals of a scenario keep their rule.
+pub fn valid_scenario(s: Scenario) -> bool
+    ensures { λ b. ⌜ b ≡ allValid (scenarioDecimals s) ⌝ }
+{
+    let ef = valid(s.ef);
+    let ed = valid(s.ed);
+    let bw = valid(s.bw);
+    let at = valid(s.at);
+    let ir = valid(s.ir);
+    let ira = valid(s.ira);
+    let pef = valid(s.pef);
+    let et = valid(s.et);
+    let rf = valid(s.rf);
+    let sa = valid(s.sa);
+    let tr = valid(s.tr);
+    let thi = valid(s.thi);
+    both(
+        ef,
+        both(
+            ed,
+            both(
+                bw,
+                both(
+                    at,
+                    both(
+                        ir,
+                        both(ira, both(pef, both(et, both(rf, both(sa, both(tr, thi)))))),
+                    ),
+                ),
+            ),
+        ),
+    )
+}
+
+// Whether the eight decimals of a contaminant keep their rule.
+pub fn valid_contaminant(r: Contaminant) -> bool
+    ensures { λ b. ⌜ b ≡ allValid (contaminantDecimals r) ⌝ }
+{
+    let sfo = valid(r.sfo);
+    let sfi = valid(r.sfi);
+    let sfx = valid(r.sfx);
+    let rfdo = valid(r.rfdo);
+    let rfdi = valid(r.rfdi);
+    let vf = valid(r.vf);
+    let pc = valid(r.pc);
+    let c = valid(r.c);
+    both(
+        sfo,
+        both(
+            sfi,
+            both(sfx, both(rfdo, both(rfdi, both(vf, both(pc, c))))),
+        ),
+    )
+}

@@ -1,0 +1,4 @@
+pub mod Formula
+pub mod Term
+pub mod ExactTerm
+pub mod Stands
