@@ -28,7 +28,7 @@ use Rattle.decimal.specs.declared.Decimal.{Decimal}
 use Rattle.decimal.specs.Exponent.{raise, raised}
 use Rattle.decimal.specs.Decimal.{zeroOf, biasedOf, decimalOf, valueOf, areOperands, mulOf, divOf, addOf, workingOf}
 use Rattle.decimal.specs.Fraction.{Fraction, given, times, over, plus}
-use Rattle.decimal.specs.Lists.{multiplied, added, timesAll, plusAll}
+use Rattle.decimal.specs.Lists.{multiplied, summed, added, timesAll, plusAll}
 use Rattle.decimal.proofs.Bias.{raised-bounds, lower-raised}
 use Rattle.decimal.proofs.OperandFacts.{is-operand}
 use Rattle.decimal.proofs.Laws.{Operable, operable-zero, decimal-zero, decimal-nine, biased-nine, mul-rounds, div-rounds, add-rounds, working-is, working-value}
@@ -75,7 +75,7 @@ module _ (dir : Direction) {v w : ℕ} {a b : Decimal} (s : Sized v a) (t : Size
   unfolding addOf
   add-is = rw both
 
-  sized-mul : v + w ≤ 980 → Sized (v + w + 1) (mulOf a b dir)
+  pub sized-mul : v + w ≤ 980 → Sized (v + w + 1) (mulOf a b dir)
   sized-mul h =
       let p = biasedOf a in
       let q = biasedOf b in
@@ -83,7 +83,7 @@ module _ (dir : Direction) {v w : ℕ} {a b : Decimal} (s : Sized v a) (t : Size
       let n = rounds-nine dir _ one _ (mul-pos (worth-pos p (s .nine)) (worth-pos q (t .nine))) (product-rounds dir p q (sized-range s) (sized-range t) (inr (s .nine)) (inr (t .nine))) in
       rw mul-is (sized-of (v + w + 1) (productOf dir p q) n (omega (arith, e .low, s .low, t .low)) (omega (arith, e .high, s .high, t .high)) (omega arith))
 
-  sized-div : v + w ≤ 980 → Sized (v + w + 1) (divOf a b dir)
+  pub sized-div : v + w ≤ 980 → Sized (v + w + 1) (divOf a b dir)
   sized-div h =
       let p = biasedOf a in
       let q = biasedOf b in
@@ -91,7 +91,7 @@ module _ (dir : Direction) {v w : ℕ} {a b : Decimal} (s : Sized v a) (t : Size
       let n = rounds-nine dir _ (worth q) _ (mul-pos (worth-pos p (s .nine)) one-pos) (quotient-rounds dir p q (sized-range s) (sized-range t) (inr (s .nine)) (t .nine)) in
       rw div-is (sized-of (v + w + 1) (quotientOf dir p q) n (omega (arith, e .low, s .low, t .high)) (omega (arith, e .high, s .high, t .low)) (omega arith))
 
-  sized-add : v ≤ 980 → w ≤ v → Sized (v + 1) (addOf a b dir)
+  pub sized-add : v ≤ 980 → w ≤ v → Sized (v + 1) (addOf a b dir)
   sized-add h k =
       let p = biasedOf a in
       let q = biasedOf b in
@@ -252,6 +252,21 @@ sum-fair dir h l u f end = fair-most dir (omega arith) (omega arith) f
 sum-fair dir {j} {k} {v} {w} h l u f (next {d} {q} {ds} g gs) =
     fair-most dir {j = 1 + j + length ds} {v = v + 1 + length ds} (omega arith) (omega arith)
     (sum-fair dir {j = 1 + j} {v = v + 1} (omega arith) (omega arith) (omega arith) (fair-add dir (omega arith) f (fair-most dir h l g)) gs)
+
+-- the same where zeros are skipped
+pub fair-skip : (dir : Direction) {a b : Decimal} {p q : Fraction} {k w : ℕ} → w ≤ 980 → Fair dir k w a p → Fair dir k w b q → Fair dir (1 + k) (w + 1) (cond (eqb (b .m) 0) a (addOf a b dir)) (plus p q)
+fair-skip dir {a} {b} {p} {q} {k} {w} h f (none e t m) = rw e (fair-most dir {j = k} {v = w} (omega arith) (omega arith) (kept f))
+  where
+    kept : Fair dir k w a p → Fair dir k w a (plus p q)
+    kept (none e u n) = none e (rw (u, t) (omega arith)) (mul-pos n m)
+    kept (some g) = some (record { sized = g .sized; top = omega (arith, mul-pos (g .top) m); bottom = mul-pos (g .bottom) m; near = rw t (left-near dir k one (valueOf a) (p .top) (p .bottom) (q .bottom) (g .near)) })
+fair-skip dir {a} {b} h f (some g) = rw (ne-eqb (b .m) 0 (omega (arith, g .sized .nine .least))) (fair-add dir h f (some g))
+
+pub skip-fair : (dir : Direction) {j k v w : ℕ} {a : Decimal} {p : Fraction} {bs : List Decimal} {ps : List Fraction} → k ≤ j → w ≤ v → v + length bs ≤ 980 → Fair dir j v a p → Summands dir k w bs ps → Fair dir (j + length bs) (v + length bs) (summed dir a bs) (plusAll p ps)
+skip-fair dir h l u f end = fair-most dir (omega arith) (omega arith) f
+skip-fair dir {j} {k} {v} {w} h l u f (next {d} {q} {ds} g gs) =
+    fair-most dir {j = 1 + j + length ds} {v = v + 1 + length ds} (omega arith) (omega arith)
+    (skip-fair dir {j = 1 + j} {v = v + 1} (omega arith) (omega arith) (omega arith) (fair-skip dir (omega arith) f (fair-most dir h l g)) gs)
 
 -- ---- an input decimal's working form stands for it, with no rounding: m below 10^9 and e from -20 to 20
 pub working-fair : (dir : Direction) (d : Decimal) → d .m < 1000000000 → 2980 ≤ raised (d .e) → raised (d .e) ≤ 3020 → Fair dir 0 28 (workingOf d) (given d)

@@ -16,7 +16,7 @@ use Rattle.rounding.specs.Round.{Rounds, roundOf}
 use Rattle.rounding.specs.Operations.{productOf, quotientOf, gapOf, alignedOf, sumOf}
 use Rattle.rounding.specs.WorkingForm.{nineOf}
 use Rattle.rounding.proofs.Greatest.{rounds-worth, rounds-mono}
-use Rattle.rounding.proofs.ExactResults.{one-pos, product-rounds, quotient-zero, quotient-rounds, sum-rounds}
+use Rattle.rounding.proofs.ExactResults.{one-pos, product-zero, product-rounds, quotient-zero, quotient-nothing, quotient-rounds, sum-rounds}
 use Rattle.rounding.proofs.Exponents.{worth-same}
 use Rattle.rounding.proofs.NineDigits.{nine-worth, nine-nine, nine-zero, nine-result}
 use Rattle.decimal.specs.declared.Decimal.{Decimal}
@@ -106,6 +106,23 @@ div-zero dir a = cases (isOperand (biasedOf a)) refl
     cases : (t : Bool) → isOperand (biasedOf a) ≡ t → cond (t && isOperand (biasedOf zeroOf)) (decimalOf (quotientOf dir (biasedOf a) (biasedOf zeroOf))) zeroOf ≡ zeroOf
     cases true e = rw (operable-zero .tested) (decimal-zero (quotientOf dir (biasedOf a) (biasedOf zeroOf)) (quotient-zero dir (biasedOf a) (biasedOf zeroOf) (operand-is a e .range) (operand-is zeroOf (operable-zero .tested) .range) refl))
     cases false e = refl
+
+-- a zero factor, and a zero dividend, give (0, 0)
+tested : (t : Bool) (r : Biased) → r .m ≡ 0 → cond t (decimalOf r) zeroOf ≡ zeroOf
+tested true r z = decimal-zero r z
+tested false r z = refl
+
+pub mul-zero-left : (dir : Direction) (b : Decimal) → mulOf zeroOf b dir ≡ zeroOf
+unfolding mulOf
+mul-zero-left dir b = tested (areOperands zeroOf b) (productOf dir (biasedOf zeroOf) (biasedOf b)) (product-zero dir (biasedOf zeroOf) (biasedOf b) (zero-mul (b .m)))
+
+pub mul-zero-right : (dir : Direction) (a : Decimal) → mulOf a zeroOf dir ≡ zeroOf
+unfolding mulOf
+mul-zero-right dir a = tested (areOperands a zeroOf) (productOf dir (biasedOf a) (biasedOf zeroOf)) (product-zero dir (biasedOf a) (biasedOf zeroOf) (mul-zero (a .m)))
+
+pub div-zero-left : (dir : Direction) (b : Decimal) → divOf zeroOf b dir ≡ zeroOf
+unfolding divOf
+div-zero-left dir b = tested (areOperands zeroOf b) (quotientOf dir (biasedOf zeroOf) (biasedOf b)) (quotient-nothing dir (biasedOf zeroOf) (biasedOf b) refl)
 
 module _ (dir : Direction) (a b : Decimal) (h : areOperands a b ≡ false) where
   pub mul-bad : mulOf a b dir ≡ zeroOf

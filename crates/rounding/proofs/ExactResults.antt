@@ -49,13 +49,23 @@ below a b h k = omega (arith, mul-le-mul {n₁ = a} {m₁ = b} {n₂ = 999999999
 pub worth-zero : (r : Biased) → r .m ≡ 0 → worth r ≡ 0
 worth-zero r e = rw e (zero-mul (10 ^ r .x))
 
+-- a zero factor, or a zero dividend
+pub product-zero : (dir : Direction) (p q : Biased) → p .m * q .m ≡ 0 → productOf dir p q .m ≡ 0
+unfolding productOf
+product-zero dir p q z = ap (λ (r : Biased). r .m) (ap (λ (n : ℕ). roundOf dir n 100000000 (p .x + q .x - 2992)) z ∙ round-zero dir 100000000 _ (lit< tt))
+
+pub quotient-nothing : (dir : Direction) (p q : Biased) → p .m ≡ 0 → quotientOf dir p q .m ≡ 0
+unfolding quotientOf
+quotient-nothing dir p q z = cases (leb 100000000 (q .m)) refl
+  where
+    cases : (t : Bool) → leb 100000000 (q .m) ≡ t → roundOf dir (cond t (p .m * 1000000000) 0) (cond t (q .m) 1) (p .x + 2991 - q .x) .m ≡ 0
+    cases true e = ap (λ (r : Biased). r .m) (ap (λ (n : ℕ). roundOf dir n (q .m) (p .x + 2991 - q .x)) (rw z (zero-mul 1000000000)) ∙ round-zero dir (q .m) _ (omega (arith, leb-true 100000000 (q .m) e)))
+    cases false e = ap (λ (r : Biased). r .m) (round-zero dir 1 (p .x + 2991 - q .x) (lit< tt))
+
 module _ (dir : Direction) (p q : Biased) (a : InRange p) (b : InRange q) where
   -- ---- the product
   nothing-times : p .m * q .m ≡ 0 → Rounds dir (worth p * worth q) one (productOf dir p q)
-  unfolding productOf
-  nothing-times z =
-      zero-rounds dir _ one _ (omega (arith, ap (λ (v : ℕ). v * (10 ^ p .x * 10 ^ q .x)) z))
-      (ap (λ (r : Biased). r .m) (ap (λ (n : ℕ). roundOf dir n 100000000 (p .x + q .x - 2992)) z ∙ round-zero dir 100000000 _ (lit< tt))) one-pos
+  nothing-times z = zero-rounds dir _ one _ (omega (arith, ap (λ (v : ℕ). v * (10 ^ p .x * 10 ^ q .x)) z)) (product-zero dir p q z) one-pos
 
   pub product-rounds : Working p → Working q → Rounds dir (worth p * worth q) one (productOf dir p q)
   unfolding productOf
@@ -77,9 +87,7 @@ module _ (dir : Direction) (p q : Biased) (a : InRange p) (b : InRange q) where
 
   pub quotient-rounds : Working p → Nine q → Rounds dir (worth p * one) (worth q) (quotientOf dir p q)
   quotient-rounds (inl z) g =
-      zero-rounds dir _ (worth q) _ (rw (worth-zero p z) (zero-mul one))
-      (ap (λ (r : Biased). r .m) (divided g ∙ ap (λ (n : ℕ). roundOf dir n (q .m) (p .x + 2991 - q .x)) (rw z (zero-mul 1000000000)) ∙ round-zero dir (q .m) _ (omega (arith, g .least))))
-      (mul-pos (omega (arith, g .least)) (pow-ten-pos (q .x)))
+      zero-rounds dir _ (worth q) _ (rw (worth-zero p z) (zero-mul one)) (quotient-nothing dir p q z) (mul-pos (omega (arith, g .least)) (pow-ten-pos (q .x)))
   quotient-rounds (inr f) g =
       let positive : 0 < q .m = omega (arith, g .least) in
       rw (divided g)

@@ -1,0 +1,5 @@
+pub mod StandsLaws
+pub mod Constants
+pub mod Sound
+pub mod Presence
+pub mod NumberValues

@@ -1,19 +1,20 @@
 -- A number of nine digits that stands for a working decimal, with the range of its exponent: what the code keeps of every value.
 use mathlib.Core.Path.{_≡_}
-use Prim.Native.Nat.{ℕ, _+_, _≤_}
+use Prim.Native.Nat.{ℕ, _+_, _≤_, _<_}
 use Rattle.rounding.specs.declared.Biased.{Biased}
 use Rattle.rounding.specs.Biased.{Working}
 use Rattle.decimal.specs.declared.Decimal.{Decimal}
 use Rattle.decimal.specs.Decimal.{decimalOf, workingOf}
 use Rattle.inputs.specs.declared.Scenario.{Scenario}
 use Rattle.inputs.specs.declared.Contaminant.{Contaminant}
-use Rattle.terms.specs.declared.Factors.{Factors}
-use Rattle.terms.specs.declared.Toxicity.{Toxicity}
+use Rattle.terms.specs.declared.numbers.Factors.{Factors}
+use Rattle.terms.specs.declared.numbers.Toxicity.{Toxicity}
 
 -- r is the decimal d, zero or of nine digits, its exponent within w of -8
 pub record Stands (w : ℕ) (r : Biased) (d : Decimal) : Type 0 where
   pub is : decimalOf r ≡ d
   pub working : Working r
+  pub most : r .m < 1000000000
   pub low : 2992 ≤ r .x + w
   pub high : r .x ≤ 2992 + w
 
@@ -40,3 +41,31 @@ pub record ToxicityFor (r : Contaminant) (t : Toxicity) : Type 0 where
   pub vf : Stands 28 (t .vf) (workingOf (r .vf))
   pub pc : Stands 28 (t .pc) (workingOf (r .pc))
   pub c : Stands 28 (t .c) (workingOf (r .c))
+
+-- a number that stands for a working decimal of an input
+abbrev pub Input : Biased → Type 0
+Input r = Stands 28 r (decimalOf r)
+
+pub record ReadyFactors (f : Factors) : Type 0 where
+  pub ef : Input (f .ef)
+  pub ed : Input (f .ed)
+  pub bw : Input (f .bw)
+  pub at : Input (f .at)
+  pub ir : Input (f .ir)
+  pub ira : Input (f .ira)
+  pub pef : Input (f .pef)
+  pub et : Input (f .et)
+  pub rf : Input (f .rf)
+  pub sa : Input (f .sa)
+  pub tr : Input (f .tr)
+  pub thi : Input (f .thi)
+
+pub record ReadyToxicity (t : Toxicity) : Type 0 where
+  pub sfo : Input (t .sfo)
+  pub sfi : Input (t .sfi)
+  pub sfx : Input (t .sfx)
+  pub rfdo : Input (t .rfdo)
+  pub rfdi : Input (t .rfdi)
+  pub vf : Input (t .vf)
+  pub pc : Input (t .pc)
+  pub c : Input (t .c)

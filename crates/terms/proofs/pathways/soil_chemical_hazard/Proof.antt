@@ -1,0 +1,74 @@
+-- `terms::pathways::soil_chemical_hazard` meets its contract: each term is that of its formula in the table. Assumes nothing.
+use lib.Dec.{lit≤}
+use Rattle.terms.specs.Formula.{table, pathwaysOf, derived}
+use Rattle.terms.specs.Side.{numberValues}
+use Rattle.terms.proofs.StandsLaws.{stands-div, stands-middle, stands-mul3, stands-operand}
+use Rattle.terms.proofs.Constants.{days-stands}
+use Rattle.terms.proofs.NumberValues.{side-term, zero-stands, stands-turned}
+use borrow.Author.Needs.{needs}
+use Rattle.terms.proofs.pathways.soil_chemical_hazard.Statement.{statement}
+use Rattle.terms.proofs.pathways.soil_chemical_hazard.Tie as tie
+
+opposite-requires : tie.Need-opposite-requires
+opposite-requires c κs = search needs
+
+product3-requires : tie.Need-product3-requires
+product3-requires c κs =
+    let fac = c .before .before .pre .0 .prepared .ready in
+    let tox = c .before .before .pre .0 .toxicity in
+    (stands-middle (lit≤ tt) (tox .rfdo), (stands-middle (lit≤ tt) (fac .bw), stands-middle (lit≤ tt) days-stands))
+
+product3-requires-2 : tie.Need-product3-requires-2
+product3-requires-2 c κs =
+    let fac = c .before .before .before .pre .0 .prepared .ready in
+    let tox = c .before .before .before .pre .0 .toxicity in
+    (stands-middle (lit≤ tt) (tox .rfdi), (stands-middle (lit≤ tt) (fac .bw), stands-middle (lit≤ tt) days-stands))
+
+quotient-requires : tie.Need-quotient-requires
+quotient-requires c κs =
+    let fac = c .before .before .before .before .pre .0 .prepared .ready in
+    let tox = c .before .before .before .before .pre .0 .toxicity in
+    let prep = c .before .before .before .before .pre .0 .prepared in
+    let s-product3 = stands-turned (c .before .before .before .before .args .dir) (c .before .before .opposite .result) (c .before .before .opposite .ensures) (tox .rfdo) (fac .bw) days-stands (lit≤ tt) (c .before .product3 .ensures .0) in
+    (stands-operand (lit≤ tt) (prep .soil-intake) .range, stands-operand (lit≤ tt) s-product3 .range)
+
+product3-requires-3 : tie.Need-product3-requires-3
+product3-requires-3 c κs =
+    let fac = c .before .before .before .before .before .pre .0 .prepared .ready in
+    let air = c .before .before .before .before .before .pre .1 in
+    (stands-middle (lit≤ tt) (fac .ira), (stands-middle (lit≤ tt) (air .stands), stands-middle (lit≤ tt) (fac .ef)))
+
+quotient-requires-2 : tie.Need-quotient-requires-2
+quotient-requires-2 c κs =
+    let fac = c .before .before .before .before .before .before .pre .0 .prepared .ready in
+    let tox = c .before .before .before .before .before .before .pre .0 .toxicity in
+    let air = c .before .before .before .before .before .before .pre .1 in
+    let s-product33 = stands-mul3 (c .before .before .before .before .before .before .args .dir) (fac .ira) (air .stands) (fac .ef) (lit≤ tt) (c .product33 .ensures .0) in
+    let s-product32 = stands-turned (c .before .before .before .before .before .before .args .dir) (c .before .before .before .before .opposite .result) (c .before .before .before .before .opposite .ensures) (tox .rfdi) (fac .bw) days-stands (lit≤ tt) (c .before .before .product32 .ensures .0) in
+    (stands-operand (lit≤ tt) s-product33 .range, stands-operand (lit≤ tt) s-product32 .range)
+
+returns : tie.Need-returns
+unfolding numberValues derived pathwaysOf table
+returns c =
+    let fac = c .before .before .before .before .before .before .before .pre .0 .prepared .ready in
+    let tox = c .before .before .before .before .before .before .before .pre .0 .toxicity in
+    let prep = c .before .before .before .before .before .before .before .pre .0 .prepared in
+    let air = c .before .before .before .before .before .before .before .pre .1 in
+    let s-product3 = stands-turned (c .before .before .before .before .before .before .before .args .dir) (c .before .before .before .before .before .opposite .result) (c .before .before .before .before .before .opposite .ensures) (tox .rfdo) (fac .bw) days-stands (lit≤ tt) (c .before .before .before .before .product3 .ensures .0) in
+    let s-quotient = stands-div (c .before .before .before .before .before .before .before .args .dir) (prep .soil-intake) s-product3 (lit≤ tt) (c .before .before .quotient .ensures .0) in
+    let s-product33 = stands-mul3 (c .before .before .before .before .before .before .before .args .dir) (fac .ira) (air .stands) (fac .ef) (lit≤ tt) (c .before .product33 .ensures .0) in
+    let s-product32 = stands-turned (c .before .before .before .before .before .before .before .args .dir) (c .before .before .before .before .before .opposite .result) (c .before .before .before .before .before .opposite .ensures) (tox .rfdi) (fac .bw) days-stands (lit≤ tt) (c .before .before .before .product32 .ensures .0) in
+    let s-quotient2 = stands-div (c .before .before .before .before .before .before .before .args .dir) s-product33 s-product32 (lit≤ tt) (c .quotient2 .ensures .0) in
+    record { first = side-term (c .before .before .before .before .before .before .before .args .dir) (c .before .before .before .before .before .before .before .args .p) (c .before .before .before .before .before .before .before .args .t) (c .before .before .before .before .before .before .before .pre .0) 1 1 1 0 (lit≤ tt) s-quotient; second = side-term (c .before .before .before .before .before .before .before .args .dir) (c .before .before .before .before .before .before .before .args .p) (c .before .before .before .before .before .before .before .args .t) (c .before .before .before .before .before .before .before .pre .0) 1 1 1 1 (lit≤ tt) s-quotient2; third = side-term (c .before .before .before .before .before .before .before .args .dir) (c .before .before .before .before .before .before .before .args .p) (c .before .before .before .before .before .before .before .args .t) (c .before .before .before .before .before .before .before .pre .0) 1 1 1 2 (lit≤ tt) zero-stands }
+
+pub soil-chemical-hazard-spec : {M : Type 1} → statement M
+soil-chemical-hazard-spec =
+    tie.close
+    (tie.spec
+    opposite-requires
+    product3-requires
+    product3-requires-2
+    quotient-requires
+    product3-requires-3
+    quotient-requires-2
+    returns)

@@ -1,0 +1,49 @@
+-- What the code keeps of a scenario: the products that name no decimal of a contaminant.
+use mathlib.Core.List.{List, [], _∷_}
+use Prim.Native.Nat.{ℕ, _+_, _≤_, _<_}
+use lib.IntN.{pos, negsuc}
+use Rattle.rounding.specs.declared.Direction.{Direction}
+use Rattle.rounding.specs.declared.Biased.{Biased}
+use Rattle.rounding.specs.Direction.{opposite}
+use Rattle.decimal.specs.declared.Decimal.{Decimal}
+use Rattle.decimal.specs.Decimal.{decimalOf, divOf, workingOf}
+use Rattle.decimal.specs.Lists.{productOf}
+use mathlib.Core.Path.{_≡_}
+use Rattle.terms.specs.declared.numbers.Factors.{Factors}
+use Rattle.terms.specs.declared.prepared.Prepared.{Prepared}
+use Rattle.terms.specs.Stands.{Stands, ReadyFactors}
+
+-- a number that can be multiplied twice and stay in range
+pub record Middle (r : Biased) : Type 0 where
+  pub most : r .m < 1000000000
+  pub low : 2692 ≤ r .x
+  pub high : r .x ≤ 3292
+
+-- the size of a product of three
+pub record Product3 (a b c r : Biased) : Type 0 where
+  pub most : r .m < 1000000000
+  pub low : a .x + b .x + c .x ≤ r .x + 5984
+  pub high : r .x + 5984 ≤ a .x + b .x + c .x + 2
+
+-- the constants 10^-6, 0.5, 365 and 1 as working decimals
+abbrev pub millionth : Decimal
+millionth = workingOf (record { m = 1; e = negsuc 5 })
+
+abbrev pub half : Decimal
+half = workingOf (record { m = 5; e = negsuc 0 })
+
+abbrev pub days : Decimal
+days = workingOf (record { m = 365; e = pos 0 })
+
+abbrev pub unit : Decimal
+unit = workingOf (record { m = 1; e = pos 0 })
+
+-- p holds the factors f and their products in a direction
+pub record PreparedFor (dir : Direction) (f : Factors) (p : Prepared) : Type 0 where
+  pub same : p .factors ≡ f
+  pub ready : ReadyFactors (p .factors)
+  pub lifetime : Stands 86 (p .lifetime) (productOf (opposite dir) (decimalOf (f .bw) ∷ decimalOf (f .at) ∷ days ∷ []))
+  pub soil-intake : Stands 86 (p .«soil_intake») (productOf dir (decimalOf (f .ir) ∷ millionth ∷ decimalOf (f .ef) ∷ []))
+  pub water-intake : Stands 57 (p .«water_intake») (productOf dir (decimalOf (f .ir) ∷ decimalOf (f .ef) ∷ []))
+  pub vapour-intake : Stands 86 (p .«vapour_intake») (productOf dir (decimalOf (f .ira) ∷ half ∷ decimalOf (f .ef) ∷ []))
+  pub inverse-pef : Stands 57 (p .«inverse_pef») (divOf unit (decimalOf (f .pef)) dir)

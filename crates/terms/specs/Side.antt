@@ -1,0 +1,60 @@
+-- What the code's terms of a side stand for: the terms of the table's formulas over the decimals that its numbers stand for.
+use mathlib.Core.Path.{_≡_}
+use mathlib.Core.Logic.{_⊎_}
+use mathlib.Core.List.{List, [], _∷_, _++_, map}
+use Prim.Native.Nat.{ℕ}
+use lib.ListN.{getD}
+use Rattle.rounding.specs.declared.Direction.{Direction}
+use Rattle.rounding.specs.declared.Biased.{Biased}
+use Rattle.decimal.specs.declared.Decimal.{Decimal}
+use Rattle.decimal.specs.Decimal.{zeroOf, decimalOf, workingOf}
+use Rattle.terms.specs.declared.numbers.Factors.{Factors}
+use Rattle.terms.specs.declared.numbers.Toxicity.{Toxicity}
+use Rattle.terms.specs.declared.prepared.Prepared.{Prepared}
+use Rattle.terms.specs.declared.pathways.Side.{Side}
+use Rattle.terms.specs.declared.pathways.Terms.{Terms}
+use Rattle.terms.specs.Formula.{Formula, B, none, pathwaysOf, derived}
+use Rattle.terms.specs.Term.{look, constants, totalOf, termOf}
+use Rattle.terms.specs.Stands.{Stands, ReadyFactors, ReadyToxicity}
+use Rattle.terms.specs.Prepared.{PreparedFor}
+
+abbrev pub factorDecimals : Factors → List Decimal
+factorDecimals f =
+    decimalOf (f .ef) ∷ (decimalOf (f .ed) ∷ (decimalOf (f .bw) ∷ (decimalOf (f .at) ∷ (decimalOf (f .ir) ∷ (decimalOf (f .ira) ∷
+    (decimalOf (f .pef) ∷ (decimalOf (f .et) ∷ (decimalOf (f .rf) ∷ (decimalOf (f .sa) ∷ (decimalOf (f .tr) ∷ (decimalOf (f .thi) ∷ [])))))))))))
+
+abbrev pub toxicityDecimals : Toxicity → List Decimal
+toxicityDecimals t =
+    decimalOf (t .sfo) ∷ (decimalOf (t .sfi) ∷ (decimalOf (t .sfx) ∷ (decimalOf (t .rfdo) ∷ (decimalOf (t .rfdi) ∷ (decimalOf (t .vf) ∷ (decimalOf (t .pc) ∷ (decimalOf (t .c) ∷ [])))))))
+
+abbrev pub numberInputs : Factors → Toxicity → List Decimal
+numberInputs f t = map workingOf constants ++ (factorDecimals f ++ toxicityDecimals t)
+
+-- as `valuesOf`: the factors that are worked out, then the inputs
+unfoldable pub numberValues : Direction → Factors → Toxicity → List Decimal
+numberValues dir f t = map (totalOf (map (λ (fs : List Formula). zeroOf) derived ++ numberInputs f t) dir) derived ++ numberInputs f t
+
+-- the numbers that a side's terms are worked out from
+pub record Ready (dir : Direction) (p : Prepared) (t : Toxicity) : Type 0 where
+  pub prepared : PreparedFor dir (p .factors) p
+  pub toxicity : ReadyToxicity t
+
+-- b is B in a direction
+pub record Air (dir : Direction) (p : Prepared) (t : Toxicity) (b : Biased) : Type 0 where
+  pub stands : Stands 58 b (look (numberValues dir (p .factors) t) B)
+
+pub record SideFor (dir : Direction) (f : Factors) (t : Toxicity) (fs : List Formula) (s : Side) : Type 0 where
+  pub first : Stands 600 (s .first) (termOf (numberValues dir f t) dir (getD fs 0 none))
+  pub second : Stands 600 (s .second) (termOf (numberValues dir f t) dir (getD fs 1 none))
+  pub third : Stands 600 (s .third) (termOf (numberValues dir f t) dir (getD fs 2 none))
+
+pub record TermsFor (dir : Direction) (f : Factors) (t : Toxicity) (medium class : ℕ) (r : Terms) : Type 0 where
+  pub risk : SideFor dir f t (pathwaysOf medium class 0) (r .risk)
+  pub hazard : SideFor dir f t (pathwaysOf medium class 1) (r .hazard)
+
+-- a medium or a class
+abbrev pub OneOrTwo : ℕ → Type 0
+OneOrTwo n = (n ≡ 1) ⊎ (n ≡ 2)
+
+abbrev pub noSide : Side
+noSide = record { first = record { m = 0; x = 2992 }; second = record { m = 0; x = 2992 }; third = record { m = 0; x = 2992 } }
