@@ -3,3 +3,5 @@ pub mod Constants
 pub mod Sound
 pub mod Presence
 pub mod NumberValues
+pub mod TermBounds
+pub mod ValueBounds
