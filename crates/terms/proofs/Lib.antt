@@ -5,3 +5,4 @@ pub mod Presence
 pub mod NumberValues
 pub mod TermBounds
 pub mod ValueBounds
+pub mod SameValues

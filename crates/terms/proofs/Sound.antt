@@ -3,12 +3,15 @@
 use mathlib.Core.Path.{_≡_, refl}
 use mathlib.Core.Bool.{Bool, true, false, cond, not, _&&_}
 use mathlib.Core.List.{List, [], _∷_}
-use Prim.Native.Nat.{ℕ, zero, suc, _+_, _-_, _*_, _≤_}
+use mathlib.Core.Logic.{_⊎_, inl, inr}
+use Prim.Native.Nat.{ℕ, zero, suc, _+_, _-_, _*_, _≤_, _<_}
+use native.Mathlib.Nat.{not-suc-le-zero, le-of-suc-le-suc}
 use native.Mathlib.Omega.{arith}
-use lib.Dec.{leb, ltb}
-use lib.ListN.{getD}
-use borrow.Author.Tests.{leb-true}
+use lib.Dec.{eqb, leb, ltb}
+use lib.ListN.{length, getD}
+use borrow.Author.Tests.{eqb-true, leb-true}
 use Rattle.inputs.proofs.Tests.{and-split}
+use Rattle.terms.specs.Side.{OneOrTwo}
 use Rattle.terms.specs.Formula.{Formula, table, pathwaysOf, derived, none}
 
 -- a factor that is worked out stands in one of the first places: up to 8 roundings and a width of 200. An input is exact, of width 28
@@ -100,3 +103,28 @@ sound-at (next s ss) z (suc n) = sound-at ss z n
 
 pub none-sound : (k w : ℕ) → 1 ≤ k → 1 ≤ w → Sound k w none
 none-sound k w h l = record { near = omega arith; wide = omega arith; clean = refl }
+
+-- ---- each side of each medium and class has three places
+abbrev allThree : List (List Formula) → Bool
+allThree [] = true
+allThree (fs ∷ fss) = eqb (length fs) 3 && allThree fss
+
+three-at : (fss : List (List Formula)) → allThree fss ≡ true → (n : ℕ) → n < length fss → length (getD fss n []) ≡ 3
+three-at [] t n h = absurd (not-suc-le-zero h)
+three-at (fs ∷ fss) t zero h = eqb-true (length fs) 3 (and-split (eqb (length fs) 3) (allThree fss) t .0)
+three-at (fs ∷ fss) t (suc n) h = three-at fss (and-split (eqb (length fs) 3) (allThree fss) t .1) n (le-of-suc-le-suc h)
+
+pub three-pathways : (medium class side : ℕ) → OneOrTwo medium → OneOrTwo class → side < 2 → length (pathwaysOf medium class side) ≡ 3
+unfolding pathwaysOf table
+three-pathways medium class side m c h = three-at table refl (4 * (medium - 1) + 2 * (class - 1) + side) (omega (arith, most m, most c, h))
+  where
+    most : {n : ℕ} → OneOrTwo n → n ≤ 2
+    most (inl e) = omega (arith, e)
+    most (inr e) = omega (arith, e)
+
+pub three-places : (fs : List Formula) → length fs ≡ 3 → fs ≡ getD fs 0 none ∷ getD fs 1 none ∷ getD fs 2 none ∷ []
+three-places [] h = absurd (omega (arith, h))
+three-places (a ∷ []) h = absurd (omega (arith, h))
+three-places (a ∷ (b ∷ [])) h = absurd (omega (arith, h))
+three-places (a ∷ (b ∷ (c ∷ []))) h = refl
+three-places (a ∷ (b ∷ (c ∷ (d ∷ ds)))) h = absurd (omega (arith, h))

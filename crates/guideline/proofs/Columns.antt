@@ -1,0 +1,154 @@
+-- The code's column of a side stands for the guidelines of the definitions, and is in range. Assumes nothing.
+use mathlib.Core.Path.{_≡_, refl, sym, ap, subst, _∙_}
+use mathlib.Core.Bool.{Bool, true, false, cond, not, _&&_, _||_}
+use mathlib.Core.Logic.{_⊎_, inl, inr}
+use mathlib.Core.List.{List, [], _∷_, map}
+use Prim.Native.Nat.{ℕ, _+_, _≤_, _<_}
+use native.Mathlib.Omega.{arith}
+use lib.Dec.{eqb, ltb, lit<, lit≤}
+use lib.ListN.{length, getD}
+use lib.IntN.{ℤ}
+use borrow.Author.Tests.{eq-eqb, ne-eqb, lt-ltb}
+use Rattle.rounding.specs.declared.Direction.the-variants.{Down, Up}
+use Rattle.rounding.specs.declared.Biased.{Biased}
+use Rattle.rounding.specs.Biased.{Nine, Working}
+use Rattle.rounding.specs.Operations.{quotientOf, sumOf}
+use Rattle.decimal.specs.declared.Decimal.{Decimal}
+use Rattle.decimal.specs.Exponent.{raise, inRange, raised}
+use Rattle.decimal.specs.Decimal.{zeroOf, decimalOf, addOf, divOf, Printable}
+use Rattle.decimal.specs.Lists.{summed}
+use Rattle.decimal.proofs.Laws.{decimal-zero, decimal-nine}
+use Rattle.terms.specs.declared.pathways.Side.{Side}
+use Rattle.terms.specs.Formula.{Formula, none}
+use Rattle.terms.specs.Term.{termOf, totalOf}
+use Rattle.terms.specs.Stands.{Stands}
+use Rattle.terms.proofs.StandsLaws.{Value, stands-value, stands-is, stands-most, stands-add, stands-div, skip-first, skip-next}
+use Rattle.terms.proofs.StandsLaws.Value.{absent, known}
+use Rattle.terms.proofs.Sound.{three-places}
+use Rattle.guideline.specs.declared.SideGuidelines.{SideGuidelines}
+use Rattle.guideline.specs.declared.Column.{Column}
+use Rattle.guideline.specs.Column.{Wide, ColumnFor, rangedOf, columnRanged, PrintableColumn, columnDecimals}
+use Rattle.guideline.specs.Guideline.{sideOf, sideDecimals, allRanged}
+
+pub stands-wide : {w : ℕ} {r : Biased} {d : Decimal} → w ≤ 600 → Stands w r d → Wide r
+stands-wide h s = record { most = s .most; low = omega (arith, s .low); high = omega (arith, s .high) }
+
+pub stands-printable : {w : ℕ} {r : Biased} {d : Decimal} → w ≤ 990 → Stands w r d → Printable r
+stands-printable h s = record { digits = s .most; exponent = omega (arith, s .high) }
+
+-- ---- the exponent of what a number stands for
+raised-inside : (e : ℤ) → 0 < raised e → inRange e ≡ true
+raised-inside e = cases (inRange e)
+  where
+    cases : (b : Bool) → 0 < cond b (raise e) 0 → b ≡ true
+    cases true h = refl
+    cases false h = absurd (omega (arith, h))
+
+record Inside (d : Decimal) : Type 0 where
+  inside : inRange (d .e) ≡ true
+
+value-inside : {w : ℕ} {d : Decimal} → Value w d → Inside d
+value-inside (absent e) = record { inside = rw e }
+value-inside {w} {d} (known s) = record { inside = raised-inside (d .e) (s .some) }
+
+stands-inside : {w : ℕ} {r : Biased} {d : Decimal} → w ≤ 990 → Stands w r d → Inside d
+stands-inside h s = value-inside (stands-value h s)
+
+stands-ranged : {w : ℕ} {r : Biased} {d : Decimal} → w ≤ 990 → Stands w r d → rangedOf r ≡ true
+stands-ranged {w} {r} h s = rw (lt-ltb 2000 (r .x) (omega (arith, s .low)), lt-ltb (r .x) 4000 (omega (arith, s .high)))
+
+-- zero for zero
+pub stands-zero : {w : ℕ} {r : Biased} {d : Decimal} → Stands w r d → eqb (r .m) 0 ≡ eqb (d .m) 0
+stands-zero {w} {r} {d} s = cases (s .working)
+  where
+    cases : Working r → eqb (r .m) 0 ≡ eqb (d .m) 0
+    cases (inl z) = eq-eqb (r .m) 0 z ∙ sym (ap (λ (d : Decimal). eqb (d .m) 0) (sym (s .is) ∙ decimal-zero r z))
+    cases (inr n) = ap (λ (d : Decimal). eqb (d .m) 0) (sym (decimal-nine r n) ∙ s .is)
+
+-- ---- the terms of a side over any values
+pub record SideStands (vs : List Decimal) (fs : List Formula) (t : Side) : Type 0 where
+  pub first : Stands 600 (t .first) (termOf vs Up (getD fs 0 none))
+  pub second : Stands 600 (t .second) (termOf vs Up (getD fs 1 none))
+  pub third : Stands 600 (t .third) (termOf vs Up (getD fs 2 none))
+
+pub record ColumnStands (vs : List Decimal) (target : Decimal) (fs : List Formula) (c : Column) : Type 0 where
+  pub sum : Stands 602 (c .sum) (totalOf vs Up fs)
+  pub first : Stands 629 (c .first) (divOf target (termOf vs Up (getD fs 0 none)) Down)
+  pub second : Stands 629 (c .second) (divOf target (termOf vs Up (getD fs 1 none)) Down)
+  pub third : Stands 629 (c .third) (divOf target (termOf vs Up (getD fs 2 none)) Down)
+  pub total : Stands 631 (c .total) (divOf target (totalOf vs Up fs) Down)
+
+module _ (vs : List Decimal) (fs : List Formula) (t : Side) (h : length fs ≡ 3) (s : SideStands vs fs t) where
+  a : Decimal
+  a = termOf vs Up (getD fs 0 none)
+
+  b : Decimal
+  b = termOf vs Up (getD fs 1 none)
+
+  c : Decimal
+  c = termOf vs Up (getD fs 2 none)
+
+  two : Stands 601 (sumOf Up (t .first) (t .second)) (addOf a b Up)
+  unfolding a b
+  two = stands-add Up (s .first) (s .second) (lit≤ tt) (lit≤ tt) refl
+
+  -- the total adds the three in order, zeros skipped
+  total-is : totalOf vs Up fs ≡ addOf (addOf a b Up) c Up
+  unfolding totalOf a b c
+  total-is =
+      ap (λ (l : List Formula). summed Up zeroOf (map (termOf vs Up) l)) (three-places fs h) ∙
+      ap (λ (d : Decimal). summed Up d (b ∷ c ∷ [])) (skip-first Up (stands-value (lit≤ tt) (s .first))) ∙
+      ap (λ (d : Decimal). summed Up d (c ∷ [])) (skip-next Up (stands-value (lit≤ tt) (s .first)) (stands-value (lit≤ tt) (s .second))) ∙
+      skip-next Up (stands-value (lit≤ tt) two) (stands-value (lit≤ tt) (s .third))
+
+  pub sum-stands : Stands 602 (sumOf Up (sumOf Up (t .first) (t .second)) (t .third)) (totalOf vs Up fs)
+  unfolding c
+  sum-stands = stands-is (sym total-is) (stands-add Up two (s .third) (lit≤ tt) (lit≤ tt) refl)
+
+  pub column-stands : (n : Biased) (target : Decimal) (k : Column) → Stands 28 n target → ColumnFor n t k → ColumnStands vs target fs k
+  column-stands n target k g e =
+      let u = subst (λ (r : Biased). Stands 602 r (totalOf vs Up fs)) (sym (e .sum)) sum-stands in
+      record {
+        sum = u;
+        first = stands-div Down g (s .first) (lit≤ tt) (e .first);
+        second = stands-div Down g (s .second) (lit≤ tt) (e .second);
+        third = stands-div Down g (s .third) (lit≤ tt) (e .third);
+        total = stands-div Down g u (lit≤ tt) (e .total);
+      }
+
+-- ---- what follows from it
+module _ {vs : List Decimal} {target : Decimal} {fs : List Formula} {t : Side} {k : Column} (s : SideStands vs fs t) (h : ColumnStands vs target fs k) where
+  pub column-ranged : columnRanged t k ≡ true
+  column-ranged =
+      rw (
+        stands-ranged (lit≤ tt) (s .first),
+        stands-ranged (lit≤ tt) (s .second),
+        stands-ranged (lit≤ tt) (s .third),
+        stands-ranged (lit≤ tt) (h .first),
+        stands-ranged (lit≤ tt) (h .second),
+        stands-ranged (lit≤ tt) (h .third),
+        stands-ranged (lit≤ tt) (h .total),
+        stands-ranged (lit≤ tt) (h .sum),
+      )
+
+  -- refusal 9 does not occur on this side
+  pub side-ranged : allRanged (sideDecimals vs target fs) ≡ true
+  unfolding sideOf
+  side-ranged =
+      rw (
+        stands-inside (lit≤ tt) (s .first) .inside,
+        stands-inside (lit≤ tt) (s .second) .inside,
+        stands-inside (lit≤ tt) (s .third) .inside,
+        stands-inside (lit≤ tt) (h .sum) .inside,
+        stands-inside (lit≤ tt) (h .first) .inside,
+        stands-inside (lit≤ tt) (h .second) .inside,
+        stands-inside (lit≤ tt) (h .third) .inside,
+        stands-inside (lit≤ tt) (h .total) .inside,
+      )
+
+pub column-printable : {vs : List Decimal} {target : Decimal} {fs : List Formula} {k : Column} → ColumnStands vs target fs k → PrintableColumn k
+column-printable h = record { first = stands-printable (lit≤ tt) (h .first); second = stands-printable (lit≤ tt) (h .second); third = stands-printable (lit≤ tt) (h .third); total = stands-printable (lit≤ tt) (h .total) }
+
+pub column-is : {vs : List Decimal} {target : Decimal} {fs : List Formula} {k : Column} → ColumnStands vs target fs k → columnDecimals k ≡ sideOf vs target fs
+unfolding sideOf
+column-is h = rw (h .first .is, h .second .is, h .third .is, h .total .is)

@@ -1,0 +1,57 @@
+-- What the code keeps of a side's guidelines: numbers, and the equations that make them.
+use mathlib.Core.Path.{_≡_}
+use mathlib.Core.Bool.{Bool, true, false, _&&_}
+use Prim.Native.Nat.{ℕ, _≤_, _<_}
+use lib.Dec.{eqb, ltb}
+use Rattle.decimal.specs.Decimal.{decimalOf, Printable}
+use Rattle.inputs.specs.declared.Scenario.{Scenario}
+use Rattle.inputs.specs.declared.Contaminant.{Contaminant}
+use Rattle.inputs.specs.Inputs.{scenarioDecimals, contaminantDecimals}
+use Rattle.inputs.specs.Valid.{allValid}
+use Rattle.terms.specs.Side.{OneOrTwo}
+use Rattle.guideline.specs.declared.SideGuidelines.{SideGuidelines}
+use Rattle.rounding.specs.declared.Direction.the-variants.{Down, Up}
+use Rattle.rounding.specs.declared.Biased.{Biased}
+use Rattle.rounding.specs.Operations.{quotientOf, sumOf}
+use Rattle.terms.specs.declared.pathways.Side.{Side}
+use Rattle.guideline.specs.declared.Column.{Column}
+
+-- a number whose exponent leaves room for a sum and a division
+pub record Wide (r : Biased) : Type 0 where
+  pub most : r .m < 1000000000
+  pub low : 2392 ≤ r .x
+  pub high : r .x ≤ 3592
+
+pub record ColumnFor (target : Biased) (t : Side) (c : Column) : Type 0 where
+  pub sum : c .sum ≡ sumOf Up (sumOf Up (t .first) (t .second)) (t .third)
+  pub first : c .first ≡ quotientOf Down target (t .first)
+  pub second : c .second ≡ quotientOf Down target (t .second)
+  pub third : c .third ≡ quotientOf Down target (t .third)
+  pub total : c .total ≡ quotientOf Down target (c .sum)
+
+-- the exponent is from -999 to 999
+abbrev pub rangedOf : Biased → Bool
+rangedOf r = ltb 2000 (r .x) && ltb (r .x) 4000
+
+abbrev pub columnRanged : Side → Column → Bool
+columnRanged t c =
+    (rangedOf (t .first) && (rangedOf (t .second) && rangedOf (t .third))) &&
+    ((rangedOf (c .first) && (rangedOf (c .second) && rangedOf (c .third))) && (rangedOf (c .total) && rangedOf (c .sum)))
+
+pub record PrintableColumn (c : Column) : Type 0 where
+  pub first : Printable (c .first)
+  pub second : Printable (c .second)
+  pub third : Printable (c .third)
+  pub total : Printable (c .total)
+
+abbrev pub columnDecimals : Column → SideGuidelines
+columnDecimals c = record { first = decimalOf (c .first); second = decimalOf (c .second); third = decimalOf (c .third); total = decimalOf (c .total) }
+
+-- inputs that passed conditions 4 and 6
+pub record Accepted (s : Scenario) (medium : ℕ) (r : Contaminant) : Type 0 where
+  pub scenario : allValid (scenarioDecimals s) ≡ true
+  pub contaminant : allValid (contaminantDecimals r) ≡ true
+  pub media : OneOrTwo medium
+  pub class : OneOrTwo (r .class)
+  pub risk-target : eqb (s .tr .m) 0 ≡ false
+  pub hazard-target : eqb (s .thi .m) 0 ≡ false

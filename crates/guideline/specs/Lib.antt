@@ -1,0 +1,3 @@
+pub mod Guideline
+pub mod Column
+pub mod Promise

@@ -1,0 +1,199 @@
+// The single guideline: from one scenario, one medium and one contaminant to the concentrations that may stay.
+use decimal::Decimal;
+use inputs::Contaminant;
+use inputs::Scenario;
+use inputs::both;
+use outcome::Refusal;
+use rounding::Biased;
+use rounding::Direction;
+use terms::pathways::Side;
+ghost use mathlib.Core.Path.{_≡_};
+ghost use mathlib.Core.Bool.{true, _&&_};
+ghost use Rattle.inputs.specs.Inputs.{scenarioDecimals, contaminantDecimals};
+ghost use Rattle.inputs.specs.Valid.{allValid};
+ghost use Rattle.terms.specs.Side.{OneOrTwo};
+ghost use Rattle.rounding.specs.declared.Direction.the-variants.{Up};
+ghost use Rattle.terms.specs.Formula.{pathwaysOf};
+ghost use Rattle.terms.specs.Term.{inputsOf, valuesOf};
+ghost use Rattle.guideline.specs.Column.{Wide, ColumnFor, rangedOf, columnRanged, PrintableColumn, columnDecimals, Accepted};
+ghost use Rattle.guideline.specs.Guideline.{oneOrTwo as oneOrTwoOf, lacksFactor, scenarioFits, contaminantFits, zeroSide, refused as refusedOf, workedOut, guidelineOf};
+
+// The guidelines of a side: three pathways and the total; zero where absent.
+pub struct SideGuidelines {
+    pub first: Decimal,
+    pub second: Decimal,
+    pub third: Decimal,
+    pub total: Decimal,
+}
+
+// The answer: accepted with the guidelines of both sides, or a refusal, its block and zeros.
+pub struct GuidelineAnswer {
+    pub refusal: Refusal,
+    pub block: u32,
+    pub risk: SideGuidelines,
+    pub hazard: SideGuidelines,
+}
+
+// The guidelines of a side as numbers, with the sum of the terms.
+pub struct Column {
+    pub first: Biased,
+    pub second: Biased,
+    pub third: Biased,
+    pub total: Biased,
+    pub sum: Biased,
+}
+
+// Whether a number is 1 or 2: a medium, or a class.
+pub fn one_or_two(n: u32) -> bool
+    ensures { λ b. ⌜ b ≡ oneOrTwoOf n ⌝ }
+{
+    if n == 1 {
+        return true;
+    }
+    n == 2
+}
+
+// Whether the medium and the scenario's decimals keep their rules.
+pub fn scenario_fits(s: Scenario, medium: u32) -> bool
+    ensures { λ b. ⌜ b ≡ scenarioFits s medium ⌝ }
+{
+    both(one_or_two(medium), inputs::valid_scenario(s))
+}
+
+// Whether the class, the id and the contaminant's decimals keep their rules.
+pub fn contaminant_fits(r: Contaminant) -> bool
+    ensures { λ b. ⌜ b ≡ contaminantFits r ⌝ }
+{
+    both(
+        one_or_two(r.class),
+        both(r.id != 0, inputs::valid_contaminant(r)),
+    )
+}
+
+// Whether EF, ED, BW, AT, TR or THI is zero.
+pub fn lacks_factor(s: Scenario) -> bool
+    ensures { λ b. ⌜ b ≡ lacksFactor s ⌝ }
+{
+    let ef = s.ef.m != 0;
+    let ed = s.ed.m != 0;
+    let bw = s.bw.m != 0;
+    let at = s.at.m != 0;
+    let tr = s.tr.m != 0;
+    let thi = s.thi.m != 0;
+    !both(ef, both(ed, both(bw, both(at, both(tr, thi)))))
+}
+
+// The sum of the terms, up; and the target over each term and over the sum, down.
+fn column_of(target: Biased, t: Side) -> Column
+    requires { ⌜ Wide target × (Wide (t .first) × (Wide (t .second) × Wide (t .third))) ⌝ }
+    ensures { λ c. ⌜ ColumnFor target t c ⌝ }
+{
+    let two = rounding::sum(t.first, t.second, Direction::Up);
+    let sum = rounding::sum(two, t.third, Direction::Up);
+    Column {
+        first: rounding::quotient(target, t.first, Direction::Down),
+        second: rounding::quotient(target, t.second, Direction::Down),
+        third: rounding::quotient(target, t.third, Direction::Down),
+        total: rounding::quotient(target, sum, Direction::Down),
+        sum,
+    }
+}
+
+// Whether an exponent is from -999 to 999.
+fn ranged(r: Biased) -> bool
+    ensures { λ b. ⌜ b ≡ rangedOf r ⌝ }
+{
+    both(2000 < r.x, r.x < 4000)
+}
+
+// Whether the terms of a side, their sum and its guidelines are in range.
+fn column_ranged(t: Side, c: Column) -> bool
+    ensures { λ b. ⌜ b ≡ columnRanged t c ⌝ }
+{
+    let terms = both(ranged(t.first), both(ranged(t.second), ranged(t.third)));
+    let pathways = both(ranged(c.first), both(ranged(c.second), ranged(c.third)));
+    both(terms, both(pathways, both(ranged(c.total), ranged(c.sum))))
+}
+
+// The guidelines of a side as decimals.
+fn decimals(c: Column) -> SideGuidelines
+    requires { ⌜ PrintableColumn c ⌝ }
+    ensures { λ g. ⌜ g ≡ columnDecimals c ⌝ }
+{
+    SideGuidelines {
+        first: decimal::unbiased(c.first),
+        second: decimal::unbiased(c.second),
+        third: decimal::unbiased(c.third),
+        total: decimal::unbiased(c.total),
+    }
+}
+
+// Zero decimals.
+fn zero_side() -> SideGuidelines
+    ensures { λ g. ⌜ g ≡ zeroSide ⌝ }
+{
+    let zero = Decimal { m: 0, e: 0 };
+    SideGuidelines {
+        first: zero,
+        second: zero,
+        third: zero,
+        total: zero,
+    }
+}
+
+// A refusal with its block and zero decimals.
+fn refused(refusal: Refusal, block: u32) -> GuidelineAnswer
+    ensures { λ g. ⌜ g ≡ refusedOf refusal block ⌝ }
+{
+    GuidelineAnswer {
+        refusal,
+        block,
+        risk: zero_side(),
+        hazard: zero_side(),
+    }
+}
+
+// The answer for inputs that keep their rules.
+fn worked_out(s: Scenario, medium: u32, r: Contaminant) -> GuidelineAnswer
+    requires { ⌜ Accepted s medium r ⌝ }
+    ensures { λ g. ⌜ g ≡ workedOut (valuesOf Up (inputsOf s r)) (pathwaysOf medium (r .class) 0) (pathwaysOf medium (r .class) 1) ⌝ }
+{
+    let f = terms::numbers::scenario_numbers(s);
+    let p = terms::prepared::prepare(f, Direction::Up);
+    let t = terms::numbers::contaminant_numbers(r);
+    let side = terms::pathways::terms_of(p, t, medium, r.class, Direction::Up);
+    let risk = column_of(f.tr, side.risk);
+    let hazard = column_of(f.thi, side.hazard);
+    if both(risk.sum.m == 0, hazard.sum.m == 0) {
+        return refused(Refusal::Pathway, 1);
+    }
+    if both(
+        column_ranged(side.risk, risk),
+        column_ranged(side.hazard, hazard),
+    ) {
+        return GuidelineAnswer {
+            refusal: Refusal::Accepted,
+            block: 0,
+            risk: decimals(risk),
+            hazard: decimals(hazard),
+        };
+    }
+    refused(Refusal::Range, 1)
+}
+
+// The eight guidelines of a contaminant under a scenario in a medium (1 soil, 2 water), or a refusal:
+// 4 or 6 in block 0 for the scenario and the medium; 4, 8 or 9 in block 1 for the contaminant.
+pub fn guideline(s: Scenario, medium: u32, r: Contaminant) -> GuidelineAnswer
+    ensures { λ g. ⌜ g ≡ guidelineOf s medium r ⌝ }
+{
+    if scenario_fits(s, medium) {
+        if lacks_factor(s) {
+            return refused(Refusal::Factor, 0);
+        }
+        if contaminant_fits(r) {
+            return worked_out(s, medium, r);
+        }
+        return refused(Refusal::Field, 1);
+    }
+    refused(Refusal::Field, 0)
+}
