@@ -44,10 +44,10 @@ raised-inside e = cases (inRange e)
     cases true h = refl
     cases false h = absurd (omega (arith, h))
 
-record Inside (d : Decimal) : Type 0 where
-  inside : inRange (d .e) ≡ true
+pub record Inside (d : Decimal) : Type 0 where
+  pub inside : inRange (d .e) ≡ true
 
-value-inside : {w : ℕ} {d : Decimal} → Value w d → Inside d
+pub value-inside : {w : ℕ} {d : Decimal} → Value w d → Inside d
 value-inside (absent e) = record { inside = rw e }
 value-inside {w} {d} (known s) = record { inside = raised-inside (d .e) (s .some) }
 

@@ -1,3 +1,4 @@
 pub mod Columns
 pub mod WorkedOut
 pub mod Steps
+pub mod Promises
