@@ -1,4 +1,4 @@
-pub mod Columns
+pub mod ColumnBounds
 pub mod WorkedOut
 pub mod Steps
 pub mod Promises

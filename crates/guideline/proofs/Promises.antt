@@ -37,7 +37,7 @@ use Rattle.guideline.specs.declared.GuidelineAnswer.{GuidelineAnswer}
 use Rattle.guideline.specs.Column.{Accepted}
 use Rattle.guideline.specs.Guideline.{sideOf, sideDecimals, allRanged, anyPathway, scenarioFits, lacksFactor, contaminantFits, refused, accepted, workedOut, guidelineOf}
 use Rattle.guideline.specs.Promise.{targetOf, sideAt, pathwayAt, Kept, Promised}
-use Rattle.guideline.proofs.Columns.{Inside, value-inside}
+use Rattle.guideline.proofs.ColumnBounds.{Inside, value-inside}
 use Rattle.guideline.proofs.WorkedOut.{total-bounds, present-total}
 use Rattle.guideline.proofs.Steps.{values-of, accepted-inputs}
 
@@ -135,9 +135,16 @@ module _ (s : Scenario) (medium : ℕ) (r : Contaminant) (a : Accepted s medium 
   unfolding sideOf
   ranged side h =
       let t = target-bounds side in
-      rw (value-inside (fair-value (term-bounds side 0)) .inside, value-inside (fair-value (term-bounds side 1)) .inside, value-inside (fair-value (term-bounds side 2)) .inside,
-      value-inside (fair-value (total-fairly side h)) .inside, value-inside (guideline-value t (term-bounds side 0)) .inside, value-inside (guideline-value t (term-bounds side 1)) .inside,
-      value-inside (guideline-value t (term-bounds side 2)) .inside, value-inside (guideline-value t (total-fairly side h)) .inside)
+      rw (
+        value-inside (fair-value (term-bounds side 0)) .inside,
+        value-inside (fair-value (term-bounds side 1)) .inside,
+        value-inside (fair-value (term-bounds side 2)) .inside,
+        value-inside (fair-value (total-fairly side h)) .inside,
+        value-inside (guideline-value t (term-bounds side 0)) .inside,
+        value-inside (guideline-value t (term-bounds side 1)) .inside,
+        value-inside (guideline-value t (term-bounds side 2)) .inside,
+        value-inside (guideline-value t (total-fairly side h)) .inside,
+      )
 
   worked : workedOut vs (pathways 0) (pathways 1) ≡ cond (anyPathway vs (pathways 0) || anyPathway vs (pathways 1)) (accepted (sideOf vs (look vs TR) (pathways 0)) (sideOf vs (look vs THI) (pathways 1))) (refused Pathway 1)
   unfolding workedOut

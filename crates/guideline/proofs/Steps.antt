@@ -29,16 +29,16 @@ use Rattle.terms.specs.Term.{look, constants, termOf, totalOf, inputsOf, values
 use Rattle.terms.specs.ExactTerm.{exactValues}
 use Rattle.terms.specs.Stands.{Stands, FactorsFor, ToxicityFor}
 use Rattle.terms.specs.Prepared.{PreparedFor}
-use Rattle.terms.specs.Side.{numberValues, SideFor, TermsFor, OneOrTwo}
+use Rattle.terms.specs.Side.{numberValues, SideFor, TermsFor, OneOrTwo, Wide, WideSide}
 use Rattle.terms.proofs.Sound.{table-sound, three-pathways}
 use Rattle.terms.proofs.TermBounds.{Represents}
 use Rattle.terms.proofs.ValueBounds.{values-stand}
 use Rattle.terms.proofs.SameValues.{values-same}
 use Rattle.guideline.specs.declared.Column.{Column}
 use Rattle.guideline.specs.declared.GuidelineAnswer.{GuidelineAnswer}
-use Rattle.guideline.specs.Column.{Wide, ColumnFor, columnRanged, PrintableColumn, columnDecimals, Accepted}
+use Rattle.guideline.specs.Column.{ColumnFor, columnRanged, PrintableColumn, columnDecimals, Accepted}
 use Rattle.guideline.specs.Guideline.{oneOrTwo, scenarioFits, lacksFactor, contaminantFits, sideOf, anyPathway, refused, accepted, workedOut}
-use Rattle.guideline.proofs.Columns.{SideStands, ColumnStands, stands-wide, stands-zero, column-stands, column-ranged, side-ranged, column-printable, column-is}
+use Rattle.guideline.proofs.ColumnBounds.{SideStands, ColumnStands, stands-wide, side-wide, stands-zero, column-stands, column-ranged, side-ranged, column-printable, column-is}
 use Rattle.guideline.proofs.WorkedOut.{any-total, worked-none, worked-accepted}
 
 -- ---- the inputs of an accepted call keep their rule, with the constants
@@ -73,11 +73,8 @@ module _ {s : Scenario} {medium : ℕ} {r : Contaminant} {f : Factors} {p : Prep
   pub hazard-terms : SideStands (valuesOf Up (inputsOf s r)) (pathwaysOf medium (r .class) 1) (k .hazard)
   hazard-terms = sides same (h .terms .hazard)
 
-  pub risk-wide : Wide (f .tr) × (Wide (k .risk .first) × (Wide (k .risk .second) × Wide (k .risk .third)))
-  risk-wide = let x = risk-terms in (stands-wide (lit≤ tt) (h .factors .tr), (stands-wide (lit≤ tt) (x .first), (stands-wide (lit≤ tt) (x .second), stands-wide (lit≤ tt) (x .third))))
-
-  pub hazard-wide : Wide (f .thi) × (Wide (k .hazard .first) × (Wide (k .hazard .second) × Wide (k .hazard .third)))
-  hazard-wide = let x = hazard-terms in (stands-wide (lit≤ tt) (h .factors .thi), (stands-wide (lit≤ tt) (x .first), (stands-wide (lit≤ tt) (x .second), stands-wide (lit≤ tt) (x .third))))
+  pub wide : (Wide (f .tr) × WideSide (k .risk)) × (Wide (f .thi) × WideSide (k .hazard))
+  wide = ((stands-wide (lit≤ tt) (h .factors .tr), side-wide risk-terms), (stands-wide (lit≤ tt) (h .factors .thi), side-wide hazard-terms))
 
 -- ---- the columns
 pub record Columns-of (s : Scenario) (medium : ℕ) (r : Contaminant) (f : Factors) (p : Prepared) (t : Toxicity) (k : Terms) (x y : Column) : Type 0 where

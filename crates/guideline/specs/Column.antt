@@ -16,12 +16,6 @@ use Rattle.rounding.specs.Operations.{quotientOf, sumOf}
 use Rattle.terms.specs.declared.pathways.Side.{Side}
 use Rattle.guideline.specs.declared.Column.{Column}
 
--- a number whose exponent leaves room for a sum and a division
-pub record Wide (r : Biased) : Type 0 where
-  pub most : r .m < 1000000000
-  pub low : 2392 ≤ r .x
-  pub high : r .x ≤ 3592
-
 pub record ColumnFor (target : Biased) (t : Side) (c : Column) : Type 0 where
   pub sum : c .sum ≡ sumOf Up (sumOf Up (t .first) (t .second)) (t .third)
   pub first : c .first ≡ quotientOf Down target (t .first)

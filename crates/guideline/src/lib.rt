@@ -7,15 +7,18 @@ use outcome::Refusal;
 use rounding::Biased;
 use rounding::Direction;
 use terms::pathways::Side;
+use terms::pathways::Terms;
 ghost use mathlib.Core.Path.{_≡_};
 ghost use mathlib.Core.Bool.{true, _&&_};
 ghost use Rattle.inputs.specs.Inputs.{scenarioDecimals, contaminantDecimals};
 ghost use Rattle.inputs.specs.Valid.{allValid};
-ghost use Rattle.terms.specs.Side.{OneOrTwo};
-ghost use Rattle.rounding.specs.declared.Direction.the-variants.{Up};
+ghost use Rattle.rounding.specs.declared.Direction.the-variants.{Down, Up};
+ghost use Rattle.rounding.specs.Biased.{InRange};
+ghost use Rattle.rounding.specs.Operations.{quotientOf};
+ghost use Rattle.terms.specs.Side.{Wide, WideSide};
 ghost use Rattle.terms.specs.Formula.{pathwaysOf};
 ghost use Rattle.terms.specs.Term.{inputsOf, valuesOf};
-ghost use Rattle.guideline.specs.Column.{Wide, ColumnFor, rangedOf, columnRanged, PrintableColumn, columnDecimals, Accepted};
+ghost use Rattle.guideline.specs.Column.{ColumnFor, rangedOf, columnRanged, PrintableColumn, columnDecimals, Accepted};
 ghost use Rattle.guideline.specs.Guideline.{oneOrTwo as oneOrTwoOf, lacksFactor, scenarioFits, contaminantFits, zeroSide, refused as refusedOf, workedOut, guidelineOf};
 
 // The guidelines of a side: three pathways and the total; zero where absent.
@@ -41,6 +44,12 @@ pub struct Column {
     pub third: Biased,
     pub total: Biased,
     pub sum: Biased,
+}
+
+// Those of both sides.
+pub struct Columns {
+    pub risk: Column,
+    pub hazard: Column,
 }
 
 // Whether a number is 1 or 2: a medium, or a class.
@@ -83,19 +92,39 @@ pub fn lacks_factor(s: Scenario) -> bool
     !both(ef, both(ed, both(bw, both(at, both(tr, thi)))))
 }
 
-// The sum of the terms, up; and the target over each term and over the sum, down.
-fn column_of(target: Biased, t: Side) -> Column
-    requires { ⌜ Wide target × (Wide (t .first) × (Wide (t .second) × Wide (t .third))) ⌝ }
-    ensures { λ c. ⌜ ColumnFor target t c ⌝ }
+// The guideline of a term or of a sum of terms: the target divided by it, down.
+fn over(target: Biased, term: Biased) -> Biased
+    requires { ⌜ InRange target × InRange term ⌝ }
+    ensures { λ r. ⌜ r ≡ quotientOf Down target term ⌝ }
 {
-    let two = rounding::sum(t.first, t.second, Direction::Up);
-    let sum = rounding::sum(two, t.third, Direction::Up);
-    Column {
-        first: rounding::quotient(target, t.first, Direction::Down),
-        second: rounding::quotient(target, t.second, Direction::Down),
-        third: rounding::quotient(target, t.third, Direction::Down),
-        total: rounding::quotient(target, sum, Direction::Down),
-        sum,
+    rounding::quotient(target, term, Direction::Down)
+}
+
+// The eight guidelines, written out in one function that is called from one place: so the compiler keeps the
+// numbers in registers (docs/DECISIONS.md, speed).
+fn columns_of(tr: Biased, thi: Biased, t: Terms) -> Columns
+    requires { ⌜ (Wide tr × WideSide (t .risk)) × (Wide thi × WideSide (t .hazard)) ⌝ }
+    ensures { λ c. ⌜ ColumnFor tr (t .risk) (c .risk) × ColumnFor thi (t .hazard) (c .hazard) ⌝ }
+{
+    let a = t.risk;
+    let b = t.hazard;
+    let risk = terms::pathways::total(a, Direction::Up);
+    let hazard = terms::pathways::total(b, Direction::Up);
+    Columns {
+        risk: Column {
+            first: over(tr, a.first),
+            second: over(tr, a.second),
+            third: over(tr, a.third),
+            total: over(tr, risk),
+            sum: risk,
+        },
+        hazard: Column {
+            first: over(thi, b.first),
+            second: over(thi, b.second),
+            third: over(thi, b.third),
+            total: over(thi, hazard),
+            sum: hazard,
+        },
     }
 }
 
@@ -162,8 +191,9 @@ fn worked_out(s: Scenario, medium: u32, r: Contaminant) -> GuidelineAnswer
     let p = terms::prepared::prepare(f, Direction::Up);
     let t = terms::numbers::contaminant_numbers(r);
     let side = terms::pathways::terms_of(p, t, medium, r.class, Direction::Up);
-    let risk = column_of(f.tr, side.risk);
-    let hazard = column_of(f.thi, side.hazard);
+    let columns = columns_of(f.tr, f.thi, side);
+    let risk = columns.risk;
+    let hazard = columns.hazard;
     if both(risk.sum.m == 0, hazard.sum.m == 0) {
         return refused(Refusal::Pathway, 1);
     }

@@ -2,7 +2,7 @@
 use mathlib.Core.Path.{_≡_}
 use mathlib.Core.Logic.{_⊎_}
 use mathlib.Core.List.{List, [], _∷_, _++_, map}
-use Prim.Native.Nat.{ℕ}
+use Prim.Native.Nat.{ℕ, _≤_, _<_}
 use lib.ListN.{getD}
 use Rattle.rounding.specs.declared.Direction.{Direction}
 use Rattle.rounding.specs.declared.Biased.{Biased}
@@ -58,3 +58,21 @@ OneOrTwo n = (n ≡ 1) ⊎ (n ≡ 2)
 
 abbrev pub noSide : Side
 noSide = record { first = record { m = 0; x = 2992 }; second = record { m = 0; x = 2992 }; third = record { m = 0; x = 2992 } }
+
+-- ---- the sum of a side's terms
+-- a number whose exponent leaves room for sums and a division
+pub record Wide (r : Biased) : Type 0 where
+  pub most : r .m < 1000000000
+  pub low : 2392 ≤ r .x
+  pub high : r .x ≤ 3592
+
+pub record WideSide (s : Side) : Type 0 where
+  pub first : Wide (s .first)
+  pub second : Wide (s .second)
+  pub third : Wide (s .third)
+
+-- two exponents more at the most
+pub record TotalSize (r : Biased) : Type 0 where
+  pub most : r .m < 1000000000
+  pub low : 2392 ≤ r .x
+  pub high : r .x ≤ 3594

@@ -13,8 +13,9 @@ use crate::prepared::product3;
 use rounding::Biased;
 use rounding::Direction;
 ghost use mathlib.Core.Path.{_≡_};
+ghost use Rattle.rounding.specs.Operations.{sumOf};
 ghost use Rattle.terms.specs.Formula.{pathwaysOf};
-ghost use Rattle.terms.specs.Side.{Ready, Air, OneOrTwo, noSide, SideFor, TermsFor};
+ghost use Rattle.terms.specs.Side.{Ready, Air, OneOrTwo, noSide, SideFor, TermsFor, WideSide, TotalSize};
 
 // The terms of the three pathways of a side.
 pub struct Side {
@@ -172,4 +173,12 @@ pub fn terms_of(p: Prepared, t: Toxicity, medium: u32, class: u32, dir: Directio
         risk: water_chemical_risk(p, t, dir),
         hazard: water_chemical_hazard(p, t, dir),
     }
+}
+
+// The sum of a side's terms, from the left.
+pub fn total(s: Side, dir: Direction) -> Biased
+    requires { ⌜ WideSide s ⌝ }
+    ensures { λ r. ⌜ (r ≡ sumOf dir (sumOf dir (s .first) (s .second)) (s .third)) × TotalSize r ⌝ }
+{
+    rounding::sum(rounding::sum(s.first, s.second, dir), s.third, dir)
 }

@@ -11,7 +11,7 @@ use lib.IntN.{ℤ}
 use borrow.Author.Tests.{eq-eqb, ne-eqb, lt-ltb}
 use Rattle.rounding.specs.declared.Direction.the-variants.{Down, Up}
 use Rattle.rounding.specs.declared.Biased.{Biased}
-use Rattle.rounding.specs.Biased.{Nine, Working}
+use Rattle.rounding.specs.Biased.{Nine, Working, InRange}
 use Rattle.rounding.specs.Operations.{quotientOf, sumOf}
 use Rattle.decimal.specs.declared.Decimal.{Decimal}
 use Rattle.decimal.specs.Exponent.{raise, inRange, raised}
@@ -22,12 +22,13 @@ use Rattle.terms.specs.declared.pathways.Side.{Side}
 use Rattle.terms.specs.Formula.{Formula, none}
 use Rattle.terms.specs.Term.{termOf, totalOf}
 use Rattle.terms.specs.Stands.{Stands}
+use Rattle.terms.specs.Side.{Wide, WideSide, TotalSize}
 use Rattle.terms.proofs.StandsLaws.{Value, stands-value, stands-is, stands-most, stands-add, stands-div, skip-first, skip-next}
 use Rattle.terms.proofs.StandsLaws.Value.{absent, known}
 use Rattle.terms.proofs.Sound.{three-places}
 use Rattle.guideline.specs.declared.SideGuidelines.{SideGuidelines}
 use Rattle.guideline.specs.declared.Column.{Column}
-use Rattle.guideline.specs.Column.{Wide, ColumnFor, rangedOf, columnRanged, PrintableColumn, columnDecimals}
+use Rattle.guideline.specs.Column.{ColumnFor, rangedOf, columnRanged, PrintableColumn, columnDecimals}
 use Rattle.guideline.specs.Guideline.{sideOf, sideDecimals, allRanged}
 
 pub stands-wide : {w : ℕ} {r : Biased} {d : Decimal} → w ≤ 600 → Stands w r d → Wide r
@@ -35,6 +36,12 @@ stands-wide h s = record { most = s .most; low = omega (arith, s .low); high = o
 
 pub stands-printable : {w : ℕ} {r : Biased} {d : Decimal} → w ≤ 990 → Stands w r d → Printable r
 stands-printable h s = record { digits = s .most; exponent = omega (arith, s .high) }
+
+pub wide-range : {r : Biased} → Wide r → InRange r
+wide-range w = record { most = w .most; low = omega (arith, w .low); high = omega (arith, w .high) }
+
+pub total-range : {r : Biased} → TotalSize r → InRange r
+total-range w = record { most = w .most; low = omega (arith, w .low); high = omega (arith, w .high) }
 
 -- ---- the exponent of what a number stands for
 raised-inside : (e : ℤ) → 0 < raised e → inRange e ≡ true
@@ -70,6 +77,9 @@ pub record SideStands (vs : List Decimal) (fs : List Formula) (t : Side) : Type 
   pub first : Stands 600 (t .first) (termOf vs Up (getD fs 0 none))
   pub second : Stands 600 (t .second) (termOf vs Up (getD fs 1 none))
   pub third : Stands 600 (t .third) (termOf vs Up (getD fs 2 none))
+
+pub side-wide : {vs : List Decimal} {fs : List Formula} {t : Side} → SideStands vs fs t → WideSide t
+side-wide s = record { first = stands-wide (lit≤ tt) (s .first); second = stands-wide (lit≤ tt) (s .second); third = stands-wide (lit≤ tt) (s .third) }
 
 pub record ColumnStands (vs : List Decimal) (target : Decimal) (fs : List Formula) (c : Column) : Type 0 where
   pub sum : Stands 602 (c .sum) (totalOf vs Up fs)
