@@ -1,6 +1,5 @@
 pub mod Bias
 pub mod OperandFacts
 pub mod Laws
-pub mod MarkedFigures
 pub mod Approximation
 pub mod CoreOperations

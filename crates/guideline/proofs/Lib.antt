@@ -2,3 +2,4 @@ pub mod ColumnBounds
 pub mod WorkedOut
 pub mod Steps
 pub mod Promises
+pub mod MarkedFigures

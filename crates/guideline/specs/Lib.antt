@@ -1,3 +1,4 @@
 pub mod Guideline
 pub mod Column
 pub mod Promise
+pub mod Figures
