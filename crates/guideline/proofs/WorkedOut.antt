@@ -31,7 +31,7 @@ module _ (vs : List Decimal) (qs : List Fraction) (r : Represents Up vs qs) (fs 
   pub present-total : not (eqb (totalOf vs Up fs .m) 0) ≡ anyPresent qs fs
   present-total = ap not (fair-zero total-bounds) ∙ total-present Up vs qs r (lit≤ tt) fs o
 
-any-same : (vs : List Decimal) (qs : List Fraction) → Represents Up vs qs → (fs : List Formula) → anyPathway vs fs ≡ anyPresent qs fs
+pub any-same : (vs : List Decimal) (qs : List Fraction) → Represents Up vs qs → (fs : List Formula) → anyPathway vs fs ≡ anyPresent qs fs
 any-same vs qs r [] = refl
 any-same vs qs r (f ∷ fs) = rw (present-is Up vs qs r f, any-same vs qs r fs)
 

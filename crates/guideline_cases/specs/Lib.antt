@@ -1,0 +1,2 @@
+-- The definition that the program's contracts cite.
+pub mod Case

@@ -1,0 +1,2 @@
+pub mod ShareBounds
+pub mod Runs

@@ -1,0 +1,32 @@
+-- `sums::judge` meets its contract. Assumes nothing.
+use mathlib.Core.Path.{sym, _∙_}
+use Rattle.sums.specs.Verdict.{verdictOf}
+use borrow.Author.Needs.{needs}
+use Rattle.sums.proofs.judge.Statement.{statement}
+use Rattle.sums.proofs.judge.Tie as tie
+
+at-most-requires : tie.Need-at-most-requires
+at-most-requires c κs = search needs
+
+returns : tie.Need-returns
+unfolding verdictOf
+returns c = rw (c .before .before .if1 .taken, sym (c .before .at-most .ensures) ∙ c .if2 .taken)
+
+at-most-requires-2 : tie.Need-at-most-requires-2
+at-most-requires-2 c κs = search needs
+
+returns-2 : tie.Need-returns-2
+unfolding verdictOf
+returns-2 c = rw (c .before .before .before .before .if1 .taken, sym (c .before .before .before .at-most .ensures) ∙ c .before .before .if2 .left, sym (c .before .at-most2 .ensures) ∙ c .if3 .taken)
+
+returns-3 : tie.Need-returns-3
+unfolding verdictOf
+returns-3 c = rw (c .before .before .before .before .if1 .taken, sym (c .before .before .before .at-most .ensures) ∙ c .before .before .if2 .left, sym (c .before .at-most2 .ensures) ∙ c .if3 .left)
+
+returns-4 : tie.Need-returns-4
+unfolding verdictOf
+returns-4 c = rw (c .if1 .left)
+
+pub judge-spec : {M : Type 1} → statement M
+judge-spec =
+    tie.close (tie.spec at-most-requires returns at-most-requires-2 returns-2 returns-3 returns-4)

@@ -1,0 +1,4 @@
+pub mod Share
+pub mod Verdict
+pub mod ListCall
+pub mod Promise
