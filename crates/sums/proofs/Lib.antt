@@ -1,2 +1,3 @@
 pub mod ShareBounds
 pub mod Runs
+pub mod Verdicts
