@@ -1,0 +1,22 @@
+-- What a rule that is kept says of the numbers it is about. Assumes nothing.
+use mathlib.Core.Path.{_≡_, refl}
+use mathlib.Core.Bool.{Bool, true, false, _||_}
+use mathlib.Core.Logic.{_⊎_, inl, inr, ⊎-elim}
+use Prim.Native.Nat.{ℕ, _≤_}
+use native.Mathlib.Omega.{arith}
+use lib.Dec.{eqb, leb}
+use borrow.Author.Tests.{leb-true, eqb-true}
+use Rattle.inputs.proofs.Tests.{and-split}
+use Rattle.blocks.specs.Rules.{oneOrTwo, inFile}
+
+pub in-file : (n : ℕ) → inFile n ≡ true → (1 ≤ n) × (n ≤ 120)
+unfolding inFile
+in-file n h = let a = and-split (leb 1 n) (leb n 120) h in (leb-true 1 n (a .0), leb-true n 120 (a .1))
+
+or-cases : (x y : Bool) → (x || y) ≡ true → (x ≡ true) ⊎ (y ≡ true)
+or-cases true y h = inl refl
+or-cases false y h = inr h
+
+pub one-or-two : (n : ℕ) → oneOrTwo n ≡ true → n ≤ 2
+unfolding oneOrTwo
+one-or-two n h = ⊎-elim (λ p. omega (arith, eqb-true n 1 p)) (λ p. omega (arith, eqb-true n 2 p)) (or-cases (eqb n 1) (eqb n 2) h)

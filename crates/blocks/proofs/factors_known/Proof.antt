@@ -1,0 +1,35 @@
+-- `blocks::factors_known` meets its contract. Assumes nothing.
+use Rattle.blocks.specs.Rules.{isKnown, factorsKnown}
+use borrow.Author.Needs.{needs}
+use Rattle.blocks.proofs.factors_known.Statement.{statement}
+use Rattle.blocks.proofs.factors_known.Tie as tie
+
+both-requires : tie.Need-both-requires
+both-requires c κs = search needs
+
+both-requires-2 : tie.Need-both-requires-2
+both-requires-2 c κs = search needs
+
+both-requires-3 : tie.Need-both-requires-3
+both-requires-3 c κs = search needs
+
+both-requires-4 : tie.Need-both-requires-4
+both-requires-4 c κs = search needs
+
+both-requires-5 : tie.Need-both-requires-5
+both-requires-5 c κs = search needs
+
+returns : tie.Need-returns
+unfolding factorsKnown isKnown
+returns c = rw (c .both5 .ensures, c .before .both4 .ensures, c .before .before .both3 .ensures, c .before .before .before .before .before .both2 .ensures, c .before .before .before .before .before .before .before .before .both .ensures)
+
+pub factors-known-spec : {M : Type 1} → statement M
+factors-known-spec =
+    tie.close
+    (tie.spec
+    both-requires
+    both-requires-2
+    both-requires-3
+    both-requires-4
+    both-requires-5
+    returns)

@@ -1,0 +1,246 @@
+// Reading the blocks of a site: the header and the contaminants.
+use inputs::Contaminant;
+use inputs::Scenario;
+use outcome::Refusal;
+ghost use mathlib.Core.Bool.{_&&_};
+ghost use mathlib.Core.Path.{_≡_};
+ghost use Prim.Native.Nat.{_+_, _≤_};
+ghost use lib.Dec.{eqb};
+ghost use lib.ListN.{length};
+ghost use Rattle.words.specs.Words.{partOf};
+ghost use Rattle.blocks.specs.Rules.{oneOrTwo, inFile, countOk, headerValid, contaminantValid, factorsKnown};
+ghost use Rattle.blocks.specs.Blocks.{scenarioAt, headerAt, contaminantAt, headerUnused, contaminantUnused, soundAt, headerRead, contaminantRead};
+
+// What a header block holds: the medium (1 soil, 2 water), how many contaminants follow, the scenario.
+pub struct Header {
+    pub medium: u32,
+    pub count: u32,
+    pub scenario: Scenario,
+}
+
+// A header, or why its block is refused.
+pub enum HeaderRead {
+    Found(Header),
+    Refused(Refusal),
+}
+
+// A contaminant, or why its block is refused.
+pub enum ContaminantRead {
+    Found(Contaminant),
+    Refused(Refusal),
+}
+
+// Whether a medium or a class is 1 or 2.
+pub fn one_or_two(n: u32) -> bool
+    ensures { λ b. ⌜ b ≡ oneOrTwo n ⌝ }
+{
+    if n == 1 {
+        return true;
+    }
+    n == 2
+}
+
+// Whether a count or a place is from 1 to 120.
+pub fn in_file(n: u32) -> bool
+    ensures { λ b. ⌜ b ≡ inFile n ⌝ }
+{
+    inputs::both(1 <= n, n <= 120)
+}
+
+// Whether the count is from 1 to 120 and one less than the number of blocks.
+fn count_ok(count: u32, blocks: u32) -> bool
+    ensures { λ b. ⌜ b ≡ countOk count blocks ⌝ }
+{
+    if !in_file(count) {
+        return false;
+    }
+    count + 1 == blocks
+}
+
+// Whether the medium and the decimals of a header keep their rule.
+pub fn header_valid(h: Header) -> bool
+    ensures { λ b. ⌜ b ≡ headerValid h ⌝ }
+{
+    let s = h.scenario;
+    let decimals = inputs::valid_scenario(s);
+    inputs::both(one_or_two(h.medium), decimals)
+}
+
+// Whether the class, the id and the decimals of a contaminant keep their rule.
+pub fn contaminant_valid(r: Contaminant) -> bool
+    ensures { λ b. ⌜ b ≡ contaminantValid r ⌝ }
+{
+    let decimals = inputs::valid_contaminant(r);
+    let words = inputs::both(one_or_two(r.class), r.id != 0);
+    inputs::both(words, decimals)
+}
+
+// Whether none of the factors EF, ED, BW, AT, TR, THI is zero.
+pub fn factors_known(s: Scenario) -> bool
+    ensures { λ b. ⌜ b ≡ factorsKnown s ⌝ }
+{
+    let frequency = inputs::both(s.ef.m != 0, s.ed.m != 0);
+    let body = inputs::both(s.bw.m != 0, s.at.m != 0);
+    let targets = inputs::both(s.tr.m != 0, s.thi.m != 0);
+    inputs::both(frequency, inputs::both(body, targets))
+}
+
+// Whether the slice has a whole block at `at`.
+fn has_block(site: &[u8], at: usize) -> bool
+    ensures { λ b. ⌜ b ≡ eqb (length (partOf (now (site .entry)) at 512)) 512 ⌝ }
+{
+    let n = site.len();
+    if n < 512 {
+        return false;
+    }
+    at <= n - 512
+}
+
+// Whether the words of the block add to zero, and its place is the one given.
+fn sound(block: &[u8], place: u32) -> bool
+    requires { ⌜ 512 ≤ length (now block) ⌝ }
+    ensures { λ b. ⌜ b ≡ soundAt (now (block .entry)) place ⌝ }
+{
+    let sum = words::sum(block, 128);
+    let found = words::word(block, 4);
+    inputs::both(sum == 0, found == place)
+}
+
+// The scenario in the 504 bytes between kind and last word of a header.
+fn get_scenario(part: &[u8]) -> Scenario
+    requires { ⌜ 504 ≤ length (now part) ⌝ }
+    ensures { λ s. ⌜ s ≡ scenarioAt (now (part .entry)) 12 ⌝ }
+{
+    Scenario {
+        ef: fields::read(part, 12),
+        ed: fields::read(part, 20),
+        bw: fields::read(part, 28),
+        at: fields::read(part, 36),
+        ir: fields::read(part, 44),
+        ira: fields::read(part, 52),
+        pef: fields::read(part, 60),
+        et: fields::read(part, 68),
+        rf: fields::read(part, 76),
+        sa: fields::read(part, 84),
+        tr: fields::read(part, 92),
+        thi: fields::read(part, 100),
+    }
+}
+
+// The header in the 504 bytes between kind and last word.
+fn get_header(part: &[u8]) -> Header
+    requires { ⌜ 504 ≤ length (now part) ⌝ }
+    ensures { λ h. ⌜ h ≡ headerAt (now (part .entry)) 4 ⌝ }
+{
+    Header {
+        medium: words::word(part, 4),
+        count: words::word(part, 8),
+        scenario: get_scenario(part),
+    }
+}
+
+// Whether the unused bytes of a header are zero, in the same 504 bytes.
+fn header_unused(part: &[u8]) -> bool
+    requires { ⌜ 504 ≤ length (now part) ⌝ }
+    ensures { λ b. ⌜ b ≡ headerUnused (now (part .entry)) 4 ⌝ }
+{
+    inputs::both(
+        fields::unused_zero(part, 12, 12),
+        words::all_zero(part, 108, 396),
+    )
+}
+
+// The contaminant in the 504 bytes between kind and last word.
+fn get_contaminant(part: &[u8]) -> Contaminant
+    requires { ⌜ 504 ≤ length (now part) ⌝ }
+    ensures { λ r. ⌜ r ≡ contaminantAt (now (part .entry)) 4 ⌝ }
+{
+    Contaminant {
+        class: words::word(part, 4),
+        id: words::word(part, 8),
+        sfo: fields::read(part, 12),
+        sfi: fields::read(part, 20),
+        sfx: fields::read(part, 28),
+        rfdo: fields::read(part, 36),
+        rfdi: fields::read(part, 44),
+        vf: fields::read(part, 52),
+        pc: fields::read(part, 60),
+        c: fields::read(part, 68),
+    }
+}
+
+// Whether the unused bytes of a contaminant are zero, in the same 504 bytes.
+fn contaminant_unused(part: &[u8]) -> bool
+    requires { ⌜ 504 ≤ length (now part) ⌝ }
+    ensures { λ b. ⌜ b ≡ contaminantUnused (now (part .entry)) 4 ⌝ }
+{
+    inputs::both(
+        fields::unused_zero(part, 12, 8),
+        words::all_zero(part, 76, 428),
+    )
+}
+
+// The header of a site of so many blocks: its first 512 bytes.
+pub fn read_header(site: &[u8], blocks: u32) -> HeaderRead
+    ensures { λ r. ⌜ r ≡ headerRead (partOf (now (site .entry)) 0 512) blocks ⌝ }
+{
+    if !has_block(site, 0) {
+        return HeaderRead::Refused(Refusal::Length);
+    }
+    if !sound(&site[0..512], 0) {
+        return HeaderRead::Refused(Refusal::Check);
+    }
+    if words::word(site, 0) != 1 {
+        return HeaderRead::Refused(Refusal::Kind);
+    }
+    let part = &site[4..508];
+    let h = get_header(part);
+    if !inputs::both(header_valid(h), header_unused(part)) {
+        return HeaderRead::Refused(Refusal::Field);
+    }
+    if !count_ok(h.count, blocks) {
+        return HeaderRead::Refused(Refusal::Count);
+    }
+    let s = h.scenario;
+    if !factors_known(s) {
+        return HeaderRead::Refused(Refusal::Factor);
+    }
+    HeaderRead::Found(h)
+}
+
+// The contaminant in the block at `at`, which is to have this place and an id above the one before.
+pub fn read_contaminant(site: &[u8], at: usize, place: u32, previous: u32) -> ContaminantRead
+    ensures { λ r. ⌜ r ≡ contaminantRead (partOf (now (site .entry)) at 512) place previous ⌝ }
+{
+    if !has_block(site, at) {
+        return ContaminantRead::Refused(Refusal::Length);
+    }
+    let end = at + 512;
+    if !sound(&site[at..end], place) {
+        return ContaminantRead::Refused(Refusal::Check);
+    }
+    if words::word(site, at) != 2 {
+        return ContaminantRead::Refused(Refusal::Kind);
+    }
+    let from = at + 4;
+    let to = at + 508;
+    let part = &site[from..to];
+    let r = get_contaminant(part);
+    if !inputs::both(contaminant_valid(r), contaminant_unused(part)) {
+        return ContaminantRead::Refused(Refusal::Field);
+    }
+    if r.id <= previous {
+        return ContaminantRead::Refused(Refusal::Order);
+    }
+    ContaminantRead::Found(r)
+}
+
+// What the contaminant block at `at` holds, whether or not it keeps its rules.
+pub fn contaminant_at(site: &[u8], at: usize) -> Contaminant
+    requires { ⌜ at + 512 ≤ length (now site) ⌝ }
+    ensures { λ r. ⌜ r ≡ contaminantAt (partOf (now (site .entry)) at 512) 8 ⌝ }
+{
+    let from = at + 4;
+    let to = at + 508;
+    get_contaminant(&site[from..to])
+}

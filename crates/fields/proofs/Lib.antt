@@ -1,0 +1,3 @@
+pub mod Exponents
+pub mod Fields
+pub mod ReadBack

@@ -1,0 +1,116 @@
+-- Reading what the writer of kind 2 wrote gives the same contaminant, each decimal with the same m and the same e. Assumes nothing.
+use mathlib.Core.Path.{_≡_, refl, ap, ap₂, _∙_}
+use mathlib.Core.List.{List}
+use mathlib.Core.Bool.{Bool, true, false, _&&_, not}
+use Prim.Native.Nat.{ℕ, _<_}
+use native.Mathlib.Omega.{arith}
+use lib.ListN.{length, getD, replicate}
+use lib.Dec.{eqb, leb, ltb}
+use borrow.Author.Tests.{eq-eqb, lt-leb, not-false}
+use Rattle.outcome.specs.declared.Refusal.{Refusal}
+use Rattle.outcome.specs.declared.Refusal.the-variants.{Accepted, Field, Room}
+use Rattle.words.specs.Words.{wordAt, partOf}
+use Rattle.words.specs.Bytes.{over}
+use Rattle.words.proofs.Written.{part-over}
+use Rattle.words.proofs.ReadBack.{zeros-rest}
+use Rattle.decimal.specs.declared.Decimal.{Decimal}
+use Rattle.decimal.specs.Decimal.{zeroOf}
+use Rattle.inputs.specs.declared.Contaminant.{Contaminant}
+use Rattle.inputs.specs.Inputs.{contaminantDecimals}
+use Rattle.inputs.specs.Valid.{allValid}
+use Rattle.inputs.proofs.Tests.{and-split}
+use Rattle.fields.specs.Fields.{decimalsAt}
+use Rattle.fields.proofs.ReadBack.{all-fit}
+use Rattle.blocks.specs.declared.ContaminantRead.the-variants as C
+use Rattle.blocks.specs.Rules.{oneOrTwo, inFile, contaminantValid}
+use Rattle.blocks.specs.Blocks.{contaminantAt, contaminantUnused, soundAt, contaminantRead}
+use Rattle.blocks.proofs.Found.{passed}
+use Rattle.blocks.proofs.Rules.{in-file, one-or-two}
+use Rattle.writers.specs.Blocks.{contaminantBlock}
+use Rattle.writers.specs.Answers.{contaminantFit, contaminantAnswer, leftBy, contaminantLeft}
+use Rattle.writers.proofs.Answers.{refused}
+use Rattle.writers.proofs.ReadBack.{zeros-long, kind-back, first-back, second-back, decimals-back, unused-back, ending-back, block-length, sound-back}
+
+module _ (place previous : ℕ) (r : Contaminant) (fit : contaminantFit place r ≡ true) (small : r .id < 4294967296) (above : previous < r .id) where
+  abbrev cb : List ℕ
+  cb = contaminantBlock place r
+
+  placed-well : inFile place ≡ true
+  unfolding contaminantFit
+  placed-well = and-split (inFile place) (contaminantValid r) fit .0
+
+  valid : contaminantValid r ≡ true
+  unfolding contaminantFit
+  valid = and-split (inFile place) (contaminantValid r) fit .1
+
+  class-good : oneOrTwo (r .class) ≡ true
+  unfolding contaminantValid
+  class-good = and-split (oneOrTwo (r .class)) (not (eqb (r .id) 0)) (and-split (oneOrTwo (r .class) && not (eqb (r .id) 0)) (allValid (contaminantDecimals r)) valid .0) .0
+
+  decimals-good : allValid (contaminantDecimals r) ≡ true
+  unfolding contaminantValid
+  decimals-good = and-split (oneOrTwo (r .class) && not (eqb (r .id) 0)) (allValid (contaminantDecimals r)) valid .1
+
+  read-decimals : decimalsAt cb 16 8 ≡ contaminantDecimals r
+  unfolding contaminantBlock
+  read-decimals = decimals-back 2 place (r .class) (r .id) (contaminantDecimals r) (replicate 428 0) (all-fit (contaminantDecimals r) decimals-good)
+
+  nth : (n : ℕ) → getD (decimalsAt cb 16 8) n zeroOf ≡ getD (contaminantDecimals r) n zeroOf
+  nth n = ap (λ (l : List Decimal). getD l n zeroOf) read-decimals
+
+  read-record : contaminantAt cb 8 ≡ r
+  unfolding contaminantAt contaminantBlock decimalsAt
+  read-record = λ i. record {
+    class = first-back 2 place (r .class) (r .id) (contaminantDecimals r) (replicate 428 0) (omega (arith, one-or-two (r .class) class-good)) i;
+    id = second-back 2 place (r .class) (r .id) (contaminantDecimals r) (replicate 428 0) small i;
+    sfo = nth 0 i;
+    sfi = nth 1 i;
+    sfx = nth 2 i;
+    rfdo = nth 3 i;
+    rfdi = nth 4 i;
+    vf = nth 5 i;
+    pc = nth 6 i;
+    c = nth 7 i;
+  }
+
+  unused : contaminantUnused cb 8 ≡ true
+  unfolding contaminantUnused contaminantBlock
+  unused = ap₂ (λ (x y : Bool). x && y) (unused-back 2 place (r .class) (r .id) (contaminantDecimals r) (replicate 428 0))
+      (zeros-rest cb _ 80 428 428 (ending-back 2 place (r .class) (r .id) (contaminantDecimals r) (replicate 428 0) 64 refl) (omega arith))
+
+  long : length cb ≡ 512
+  unfolding contaminantBlock
+  long = block-length 2 place (r .class) (r .id) (contaminantDecimals r) (replicate 428 0) (zeros-long 8 428 refl)
+
+  sound : soundAt cb place ≡ true
+  unfolding contaminantBlock
+  sound = sound-back 2 place (r .class) (r .id) (contaminantDecimals r) (replicate 428 0) (zeros-long 8 428 refl) (omega (arith, in-file place placed-well))
+
+  kind : wordAt cb 0 ≡ 2
+  unfolding contaminantBlock
+  kind = kind-back 2 place (r .class) (r .id) (contaminantDecimals r) (replicate 428 0) (omega arith)
+
+  id-above : leb (wordAt cb 12) previous ≡ false
+  unfolding contaminantAt
+  id-above = ap (λ (x : Contaminant). leb (x .id) previous) read-record ∙ lt-leb (r .id) previous above
+
+  pub contaminant-back : contaminantRead cb place previous ≡ C.Found r
+  unfolding contaminantRead
+  contaminant-back = simp (eq-eqb (length cb) 512 long, sound, eq-eqb (wordAt cb 0) 2 kind, id-above, read-record, valid, unused)
+
+  pub contaminant-back-over : (d : List ℕ) → contaminantRead (partOf (over cb d) 0 512) place previous ≡ C.Found r
+  contaminant-back-over d = ap (λ (l : List ℕ). contaminantRead l place previous) (part-over cb d 512 long) ∙ contaminant-back
+
+-- ---- the same of what the call leaves, where it accepts
+accepted-fits : (out : List ℕ) (place : ℕ) (r : Contaminant) → contaminantAnswer out place r ≡ Accepted → contaminantFit place r ≡ true
+unfolding contaminantAnswer
+accepted-fits out place r e =
+    let e₁ = passed (ltb (length out) 512) Room _ Accepted (refused Room (λ z. omega arith)) e .1 in
+    not-false _ (passed (not (contaminantFit place r)) Field Accepted Accepted (refused Field (λ z. omega arith)) e₁ .0)
+
+pub contaminant-call-back : (out : List ℕ) (place previous : ℕ) (r : Contaminant) → contaminantAnswer out place r ≡ Accepted → r .id < 4294967296 → previous < r .id
+    → contaminantRead (partOf (contaminantLeft out place r) 0 512) place previous ≡ C.Found r
+unfolding contaminantLeft leftBy
+contaminant-call-back out place previous r e small above =
+    ap (λ (a : Refusal). contaminantRead (partOf (leftBy a (contaminantBlock place r) out) 0 512) place previous) e
+    ∙ contaminant-back-over place previous r (accepted-fits out place r e) small above out

@@ -1,0 +1,39 @@
+-- `writers::put_first_words` meets its contract. Assumes nothing.
+use native.Mathlib.Omega.{arith}
+use Rattle.words.specs.Bytes.{le4}
+use Rattle.words.proofs.Words.{le4-length}
+use Rattle.words.proofs.Written.{Placed, placed-next}
+use Rattle.writers.specs.Blocks.{firstWords}
+use borrow.Author.Needs.{needs}
+use Rattle.writers.proofs.put_first_words.Statement.{statement}
+use Rattle.writers.proofs.put_first_words.Tie as tie
+
+put-requires : tie.Need-put-requires
+put-requires c κs = search needs
+
+put-requires-2 : tie.Need-put-requires-2
+put-requires-2 c κs = search needs
+
+put-requires-3 : tie.Need-put-requires-3
+put-requires-3 c κs = search needs
+
+put-requires-4 : tie.Need-put-requires-4
+put-requires-4 c κs = search needs
+
+same-length : tie.Need-same-length
+same-length c = search needs
+
+returns : tie.Need-returns
+unfolding firstWords
+returns c =
+    let x = c .before .before .before .before .before .before .before .before .before .before .before .before .before .before .before .before .before .args in
+    let l = x .out .now in
+    let one : Placed (c .before .before .before .before .before .before .before .before .before .before .before .before .before .before .put .last .0) l (le4 (x .kind)) 0 4 = record { now = c .before .before .before .before .before .before .before .before .before .before .before .before .before .before .put .ensures; end = omega (arith, le4-length (x .kind)); room = omega arith } in
+    let two = placed-next (c .before .before .before .before .before .before .before .before .before .before .put2 .last .0) (le4 (x .place)) 8 one (c .before .before .before .before .before .before .before .before .before .before .put2 .ensures) (omega (arith, le4-length (x .place))) in
+    let three = placed-next (c .before .before .before .before .before .before .put3 .last .0) (le4 (x .a)) 12 two (c .before .before .before .before .before .before .put3 .ensures) (omega (arith, le4-length (x .a))) in
+    placed-next (c .before .before .put4 .last .0) (le4 (x .b)) 16 three (c .before .before .put4 .ensures) (omega (arith, le4-length (x .b))) .now
+
+pub put-first-words-spec : {M : Type 1} → statement M
+put-first-words-spec =
+    tie.close
+    (tie.spec put-requires put-requires-2 put-requires-3 put-requires-4 same-length returns)

@@ -1,0 +1,59 @@
+-- `writers::put_result` meets its contract. Assumes nothing.
+use mathlib.Core.Path.{refl}
+use mathlib.Core.List.{List, [], _∷_}
+use Prim.Native.Nat.{ℕ}
+use lib.ListN.{replicate, length-replicate}
+use Rattle.words.proofs.Written.{wrote-none, wrote-next}
+use Rattle.fields.specs.Fields.{fieldBytes}
+use Rattle.fields.proofs.ReadBack.{fieldBytes-length}
+use Rattle.decimal.specs.declared.Decimal.{Decimal}
+use Rattle.writers.specs.Blocks.{firstWords, bodyOf, guidelineDecimals, resultBlock}
+use Rattle.writers.proofs.Blocks.{firstWords-length, wrote-fields, wrote-block}
+use borrow.Author.Needs.{needs}
+use Rattle.writers.proofs.put_result.Statement.{statement}
+use Rattle.writers.proofs.put_result.Tie as tie
+
+put-first-words-requires : tie.Need-put-first-words-requires
+put-first-words-requires c κs = search needs
+
+put-four-requires : tie.Need-put-four-requires
+put-four-requires c κs = search needs
+
+put-four-requires-2 : tie.Need-put-four-requires-2
+put-four-requires-2 c κs = search needs
+
+clear-requires : tie.Need-clear-requires
+clear-requires c κs = search needs
+
+put-last-word-requires : tie.Need-put-last-word-requires
+put-last-word-requires c κs = search needs
+
+same-length : tie.Need-same-length
+same-length c = search needs
+
+returns : tie.Need-returns
+unfolding resultBlock bodyOf
+returns c =
+    let d = c .before .before .before .before .before .before .before .before .before .before .before .before .before .before .before .before .before .before .before .before .before .args .out .now in
+    let p = c .before .before .before .before .before .before .before .before .before .before .before .before .before .before .before .before .before .before .before .before .before .args .place in
+    let v = c .before .before .before .before .before .before .before .before .before .before .before .before .before .before .before .before .before .before .before .before .before .args .g in
+    let first = firstWords 3 p (c .before .before .before .before .before .before .before .before .before .before .before .before .before .before .before .before .before .before .before .before .before .args .class) (c .before .before .before .before .before .before .before .before .before .before .before .before .before .before .before .before .before .before .before .before .before .args .id) in
+    let x : List Decimal = v .risk1 ∷ (v .risk2 ∷ (v .risk3 ∷ (v .risk ∷ []))) in
+    let y : List Decimal = v .hazard1 ∷ (v .hazard2 ∷ (v .hazard3 ∷ (v .hazard ∷ []))) in
+    let w₁ = wrote-next (c .before .before .before .before .before .before .before .before .before .before .before .before .before .before .before .before .before .before .put-first-words .last .0) first 16 (wrote-none d) (c .before .before .before .before .before .before .before .before .before .before .before .before .before .before .before .before .before .before .put-first-words .ensures) (firstWords-length 3 p (c .before .before .before .before .before .before .before .before .before .before .before .before .before .before .before .before .before .before .before .before .before .args .class) (c .before .before .before .before .before .before .before .before .before .before .before .before .before .before .before .before .before .before .before .before .before .args .id)) in
+    let w₂ = wrote-next (c .before .before .before .before .before .before .before .before .before .before .before .before .before .before .put-four .last .0) (fieldBytes x) 32 w₁ (c .before .before .before .before .before .before .before .before .before .before .before .before .before .before .put-four .ensures) (fieldBytes-length x) in
+    let w₃ = wrote-fields first x y 32 (c .before .before .before .before .before .before .before .before .before .before .put-four2 .last .0) w₂ (c .before .before .before .before .before .before .before .before .before .before .put-four2 .ensures) refl in
+    let w₄ = wrote-next (c .before .before .before .before .before .before .clear .last .0) (replicate 428 0) 428 w₃ (c .before .before .before .before .before .before .clear .ensures) (length-replicate {A = ℕ} 428 0) in
+    wrote-block 3 p (c .before .before .before .before .before .before .before .before .before .before .before .before .before .before .before .before .before .before .before .before .before .args .class) (c .before .before .before .before .before .before .before .before .before .before .before .before .before .before .before .before .before .before .before .before .before .args .id) (guidelineDecimals v) (replicate 428 0) (c .before .before .put-last-word .last .0) w₄ (c .before .before .put-last-word .ensures)
+
+pub put-result-spec : {M : Type 1} → statement M
+put-result-spec =
+    tie.close
+    (tie.spec
+    put-first-words-requires
+    put-four-requires
+    put-four-requires-2
+    clear-requires
+    put-last-word-requires
+    same-length
+    returns)

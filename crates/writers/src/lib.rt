@@ -1,0 +1,156 @@
+// Writing blocks into the first 512 bytes of what is lent: header, contaminant, result, summary.
+use blocks::Header;
+use decimal::Decimal;
+use inputs::Contaminant;
+use outcome::Refusal;
+ghost use mathlib.Core.Path.{_≡_};
+ghost use Prim.Native.Nat.{_≤_};
+ghost use lib.ListN.{length};
+ghost use Rattle.words.specs.Bytes.{placed, le4, over};
+ghost use Rattle.writers.specs.Blocks.{lastWord, firstWords, headerBlock, contaminantBlock, resultBlock, summaryBlock};
+ghost use Rattle.writers.specs.Answers.{headerFit, contaminantFit, headerAnswer, headerLeft, contaminantAnswer, contaminantLeft};
+
+// The decimals of a result block: the guidelines of risk by pathway and in total, then those of hazard.
+pub struct Guidelines {
+    pub risk1: Decimal,
+    pub risk2: Decimal,
+    pub risk3: Decimal,
+    pub risk: Decimal,
+    pub hazard1: Decimal,
+    pub hazard2: Decimal,
+    pub hazard3: Decimal,
+    pub hazard: Decimal,
+}
+
+// The sums of a side, risk or hazard, and its verdict.
+pub struct Side {
+    pub lower: Decimal,
+    pub upper: Decimal,
+    pub verdict: u32,
+}
+
+// What a summary block holds.
+pub struct Summary {
+    pub risk: Side,
+    pub hazard: Side,
+}
+
+// Writes the last word, so that all 128 words add to zero.
+fn put_last_word(out: &mut [u8])
+    requires { ⌜ 512 ≤ length (now out) ⌝ }
+    ensures { λ _. ⌜ now (out .exit) ≡ placed (now (out .entry)) 508 (le4 (lastWord (now (out .entry)))) ⌝ }
+{
+    let sum = words::sum(out, 127);
+    words::put(out, 508, std::num::wrapping_sub_u32(0, sum));
+}
+
+// Writes the kind, the place and the two words after them.
+fn put_first_words(out: &mut [u8], kind: u32, place: u32, a: u32, b: u32)
+    requires { ⌜ 16 ≤ length (now out) ⌝ }
+    ensures { λ _. ⌜ now (out .exit) ≡ placed (now (out .entry)) 0 (firstWords kind place a b) ⌝ }
+{
+    words::put(out, 0, kind);
+    words::put(out, 4, place);
+    words::put(out, 8, a);
+    words::put(out, 12, b);
+}
+
+// Writes a block of kind 1.
+fn put_header(out: &mut [u8], h: Header)
+    requires { ⌜ 512 ≤ length (now out) ⌝ }
+    ensures { λ _. ⌜ now (out .exit) ≡ over (headerBlock h) (now (out .entry)) ⌝ }
+{
+    let s = h.scenario;
+    put_first_words(out, 1, 0, h.medium, h.count);
+    fields::put_four(out, 16, s.ef, s.ed, s.bw, s.at);
+    fields::put_four(out, 48, s.ir, s.ira, s.pef, s.et);
+    fields::put_four(out, 80, s.rf, s.sa, s.tr, s.thi);
+    words::clear(out, 112, 396);
+    put_last_word(out);
+}
+
+// Writes a block of kind 2.
+fn put_contaminant(out: &mut [u8], place: u32, r: Contaminant)
+    requires { ⌜ 512 ≤ length (now out) ⌝ }
+    ensures { λ _. ⌜ now (out .exit) ≡ over (contaminantBlock place r) (now (out .entry)) ⌝ }
+{
+    put_first_words(out, 2, place, r.class, r.id);
+    fields::put_four(out, 16, r.sfo, r.sfi, r.sfx, r.rfdo);
+    fields::put_four(out, 48, r.rfdi, r.vf, r.pc, r.c);
+    words::clear(out, 80, 428);
+    put_last_word(out);
+}
+
+// Writes a block of kind 3.
+pub fn put_result(out: &mut [u8], place: u32, class: u32, id: u32, g: Guidelines)
+    requires { ⌜ 512 ≤ length (now out) ⌝ }
+    ensures { λ _. ⌜ now (out .exit) ≡ over (resultBlock place class id g) (now (out .entry)) ⌝ }
+{
+    put_first_words(out, 3, place, class, id);
+    fields::put_four(out, 16, g.risk1, g.risk2, g.risk3, g.risk);
+    fields::put_four(out, 48, g.hazard1, g.hazard2, g.hazard3, g.hazard);
+    words::clear(out, 80, 428);
+    put_last_word(out);
+}
+
+// Writes a block of kind 4.
+pub fn put_summary(out: &mut [u8], t: Summary)
+    requires { ⌜ 512 ≤ length (now out) ⌝ }
+    ensures { λ _. ⌜ now (out .exit) ≡ over (summaryBlock t) (now (out .entry)) ⌝ }
+{
+    let r = t.risk;
+    let h = t.hazard;
+    put_first_words(out, 4, 0, 0, 0);
+    fields::put_four(out, 16, r.lower, r.upper, h.lower, h.upper);
+    words::put(out, 48, r.verdict);
+    words::put(out, 52, h.verdict);
+    words::clear(out, 56, 452);
+    put_last_word(out);
+}
+
+// Whether a header's count, medium and decimals keep their rule.
+fn header_fit(h: Header) -> bool
+    ensures { λ b. ⌜ b ≡ headerFit h ⌝ }
+{
+    let valid = blocks::header_valid(h);
+    inputs::both(blocks::in_file(h.count), valid)
+}
+
+// Whether a place keeps its rule, and a contaminant's class, id and decimals.
+fn contaminant_fit(place: u32, r: Contaminant) -> bool
+    ensures { λ b. ⌜ b ≡ contaminantFit place r ⌝ }
+{
+    inputs::both(blocks::in_file(place), blocks::contaminant_valid(r))
+}
+
+// Writes a header's block, or refuses it and writes nothing.
+pub fn write_header(out: &mut [u8], h: Header) -> Refusal
+    ensures { λ a. ⌜ (a ≡ headerAnswer (now (out .entry)) h) × (now (out .exit) ≡ headerLeft (now (out .entry)) h) ⌝ }
+{
+    if out.len() < 512 {
+        return Refusal::Room;
+    }
+    if !header_fit(h) {
+        return Refusal::Field;
+    }
+    let s = h.scenario;
+    if !blocks::factors_known(s) {
+        return Refusal::Factor;
+    }
+    put_header(out, h);
+    Refusal::Accepted
+}
+
+// Writes a contaminant's block, or refuses it and writes nothing.
+pub fn write_contaminant(out: &mut [u8], place: u32, r: Contaminant) -> Refusal
+    ensures { λ a. ⌜ (a ≡ contaminantAnswer (now (out .entry)) place r) × (now (out .exit) ≡ contaminantLeft (now (out .entry)) place r) ⌝ }
+{
+    if out.len() < 512 {
+        return Refusal::Room;
+    }
+    if !contaminant_fit(place, r) {
+        return Refusal::Field;
+    }
+    put_contaminant(out, place, r);
+    Refusal::Accepted
+}
