@@ -9,6 +9,7 @@ use lib.Dec.{eqb, ltb, lit<, lit≤}
 use lib.ListN.{length, getD}
 use lib.IntN.{ℤ}
 use borrow.Author.Tests.{eq-eqb, ne-eqb, lt-ltb}
+use Rattle.rounding.specs.declared.Direction.{Direction}
 use Rattle.rounding.specs.declared.Direction.the-variants.{Down, Up}
 use Rattle.rounding.specs.declared.Biased.{Biased}
 use Rattle.rounding.specs.Biased.{Nine, Working, InRange}
@@ -58,10 +59,10 @@ pub value-inside : {w : ℕ} {d : Decimal} → Value w d → Inside d
 value-inside (absent e) = record { inside = rw e }
 value-inside {w} {d} (known s) = record { inside = raised-inside (d .e) (s .some) }
 
-stands-inside : {w : ℕ} {r : Biased} {d : Decimal} → w ≤ 990 → Stands w r d → Inside d
+pub stands-inside : {w : ℕ} {r : Biased} {d : Decimal} → w ≤ 990 → Stands w r d → Inside d
 stands-inside h s = value-inside (stands-value h s)
 
-stands-ranged : {w : ℕ} {r : Biased} {d : Decimal} → w ≤ 990 → Stands w r d → rangedOf r ≡ true
+pub stands-ranged : {w : ℕ} {r : Biased} {d : Decimal} → w ≤ 990 → Stands w r d → rangedOf r ≡ true
 stands-ranged {w} {r} h s = rw (lt-ltb 2000 (r .x) (omega (arith, s .low)), lt-ltb (r .x) 4000 (omega (arith, s .high)))
 
 -- zero for zero
@@ -72,15 +73,44 @@ stands-zero {w} {r} {d} s = cases (s .working)
     cases (inl z) = eq-eqb (r .m) 0 z ∙ sym (ap (λ (d : Decimal). eqb (d .m) 0) (sym (s .is) ∙ decimal-zero r z))
     cases (inr n) = ap (λ (d : Decimal). eqb (d .m) 0) (sym (decimal-nine r n) ∙ s .is)
 
--- ---- the terms of a side over any values
-pub record SideStands (vs : List Decimal) (fs : List Formula) (t : Side) : Type 0 where
-  pub first : Stands 600 (t .first) (termOf vs Up (getD fs 0 none))
-  pub second : Stands 600 (t .second) (termOf vs Up (getD fs 1 none))
-  pub third : Stands 600 (t .third) (termOf vs Up (getD fs 2 none))
+-- ---- the terms of a side over any values, in a direction
+pub record SideStands (dir : Direction) (vs : List Decimal) (fs : List Formula) (t : Side) : Type 0 where
+  pub first : Stands 600 (t .first) (termOf vs dir (getD fs 0 none))
+  pub second : Stands 600 (t .second) (termOf vs dir (getD fs 1 none))
+  pub third : Stands 600 (t .third) (termOf vs dir (getD fs 2 none))
 
-pub side-wide : {vs : List Decimal} {fs : List Formula} {t : Side} → SideStands vs fs t → WideSide t
+pub side-wide : {dir : Direction} {vs : List Decimal} {fs : List Formula} {t : Side} → SideStands dir vs fs t → WideSide t
 side-wide s = record { first = stands-wide (lit≤ tt) (s .first); second = stands-wide (lit≤ tt) (s .second); third = stands-wide (lit≤ tt) (s .third) }
 
+-- the sum of the terms
+module _ (dir : Direction) (vs : List Decimal) (fs : List Formula) (t : Side) (h : length fs ≡ 3) (s : SideStands dir vs fs t) where
+  a : Decimal
+  a = termOf vs dir (getD fs 0 none)
+
+  b : Decimal
+  b = termOf vs dir (getD fs 1 none)
+
+  c : Decimal
+  c = termOf vs dir (getD fs 2 none)
+
+  two : Stands 601 (sumOf dir (t .first) (t .second)) (addOf a b dir)
+  unfolding a b
+  two = stands-add dir (s .first) (s .second) (lit≤ tt) (lit≤ tt) refl
+
+  -- the total adds the three in order, zeros skipped
+  total-is : totalOf vs dir fs ≡ addOf (addOf a b dir) c dir
+  unfolding totalOf a b c
+  total-is =
+      ap (λ (l : List Formula). summed dir zeroOf (map (termOf vs dir) l)) (three-places fs h) ∙
+      ap (λ (d : Decimal). summed dir d (b ∷ c ∷ [])) (skip-first dir (stands-value (lit≤ tt) (s .first))) ∙
+      ap (λ (d : Decimal). summed dir d (c ∷ [])) (skip-next dir (stands-value (lit≤ tt) (s .first)) (stands-value (lit≤ tt) (s .second))) ∙
+      skip-next dir (stands-value (lit≤ tt) two) (stands-value (lit≤ tt) (s .third))
+
+  pub sum-stands : Stands 602 (sumOf dir (sumOf dir (t .first) (t .second)) (t .third)) (totalOf vs dir fs)
+  unfolding c
+  sum-stands = stands-is (sym total-is) (stands-add dir two (s .third) (lit≤ tt) (lit≤ tt) refl)
+
+-- ---- the column of a side
 pub record ColumnStands (vs : List Decimal) (target : Decimal) (fs : List Formula) (c : Column) : Type 0 where
   pub sum : Stands 602 (c .sum) (totalOf vs Up fs)
   pub first : Stands 629 (c .first) (divOf target (termOf vs Up (getD fs 0 none)) Down)
@@ -88,46 +118,19 @@ pub record ColumnStands (vs : List Decimal) (target : Decimal) (fs : List Formul
   pub third : Stands 629 (c .third) (divOf target (termOf vs Up (getD fs 2 none)) Down)
   pub total : Stands 631 (c .total) (divOf target (totalOf vs Up fs) Down)
 
-module _ (vs : List Decimal) (fs : List Formula) (t : Side) (h : length fs ≡ 3) (s : SideStands vs fs t) where
-  a : Decimal
-  a = termOf vs Up (getD fs 0 none)
-
-  b : Decimal
-  b = termOf vs Up (getD fs 1 none)
-
-  c : Decimal
-  c = termOf vs Up (getD fs 2 none)
-
-  two : Stands 601 (sumOf Up (t .first) (t .second)) (addOf a b Up)
-  unfolding a b
-  two = stands-add Up (s .first) (s .second) (lit≤ tt) (lit≤ tt) refl
-
-  -- the total adds the three in order, zeros skipped
-  total-is : totalOf vs Up fs ≡ addOf (addOf a b Up) c Up
-  unfolding totalOf a b c
-  total-is =
-      ap (λ (l : List Formula). summed Up zeroOf (map (termOf vs Up) l)) (three-places fs h) ∙
-      ap (λ (d : Decimal). summed Up d (b ∷ c ∷ [])) (skip-first Up (stands-value (lit≤ tt) (s .first))) ∙
-      ap (λ (d : Decimal). summed Up d (c ∷ [])) (skip-next Up (stands-value (lit≤ tt) (s .first)) (stands-value (lit≤ tt) (s .second))) ∙
-      skip-next Up (stands-value (lit≤ tt) two) (stands-value (lit≤ tt) (s .third))
-
-  pub sum-stands : Stands 602 (sumOf Up (sumOf Up (t .first) (t .second)) (t .third)) (totalOf vs Up fs)
-  unfolding c
-  sum-stands = stands-is (sym total-is) (stands-add Up two (s .third) (lit≤ tt) (lit≤ tt) refl)
-
-  pub column-stands : (n : Biased) (target : Decimal) (k : Column) → Stands 28 n target → ColumnFor n t k → ColumnStands vs target fs k
-  column-stands n target k g e =
-      let u = subst (λ (r : Biased). Stands 602 r (totalOf vs Up fs)) (sym (e .sum)) sum-stands in
-      record {
-        sum = u;
-        first = stands-div Down g (s .first) (lit≤ tt) (e .first);
-        second = stands-div Down g (s .second) (lit≤ tt) (e .second);
-        third = stands-div Down g (s .third) (lit≤ tt) (e .third);
-        total = stands-div Down g u (lit≤ tt) (e .total);
-      }
+pub column-stands : (vs : List Decimal) (fs : List Formula) (t : Side) → length fs ≡ 3 → SideStands Up vs fs t → (n : Biased) (target : Decimal) (k : Column) → Stands 28 n target → ColumnFor n t k → ColumnStands vs target fs k
+column-stands vs fs t h s n target k g e =
+    let u = subst (λ (r : Biased). Stands 602 r (totalOf vs Up fs)) (sym (e .sum)) (sum-stands Up vs fs t h s) in
+    record {
+      sum = u;
+      first = stands-div Down g (s .first) (lit≤ tt) (e .first);
+      second = stands-div Down g (s .second) (lit≤ tt) (e .second);
+      third = stands-div Down g (s .third) (lit≤ tt) (e .third);
+      total = stands-div Down g u (lit≤ tt) (e .total);
+    }
 
 -- ---- what follows from it
-module _ {vs : List Decimal} {target : Decimal} {fs : List Formula} {t : Side} {k : Column} (s : SideStands vs fs t) (h : ColumnStands vs target fs k) where
+module _ {vs : List Decimal} {target : Decimal} {fs : List Formula} {t : Side} {k : Column} (s : SideStands Up vs fs t) (h : ColumnStands vs target fs k) where
   pub column-ranged : columnRanged t k ≡ true
   column-ranged =
       rw (

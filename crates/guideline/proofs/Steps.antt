@@ -8,6 +8,7 @@ use native.Mathlib.Omega.{arith}
 use lib.Dec.{eqb, lit<, lit≤}
 use lib.ListN.{length}
 use borrow.Author.Tests.{eqb-true, not-true, not-false}
+use Rattle.rounding.specs.declared.Direction.{Direction}
 use Rattle.rounding.specs.declared.Direction.the-variants.{Up}
 use Rattle.rounding.specs.declared.Biased.{Biased}
 use Rattle.decimal.specs.declared.Decimal.{Decimal}
@@ -53,8 +54,8 @@ pub values-of : (s : Scenario) (medium : ℕ) (r : Contaminant) → Accepted s m
 values-of s medium r a = values-stand Up (inputsOf s r) (inputs-valid s r (a .scenario) (a .contaminant))
 
 -- ---- the terms over the values of the definitions
-sides : {f : Factors} {t : Toxicity} {fs : List Formula} {k : Side} {vs : List Decimal} → numberValues Up f t ≡ vs → SideFor Up f t fs k → SideStands vs fs k
-sides {f} {t} {fs} {k} {vs} e h = subst (λ (l : List Decimal). SideStands l fs k) e (record { first = h .first; second = h .second; third = h .third })
+pub sides : {dir : Direction} {f : Factors} {t : Toxicity} {fs : List Formula} {k : Side} {vs : List Decimal} → numberValues dir f t ≡ vs → SideFor dir f t fs k → SideStands dir vs fs k
+sides {dir} {f} {t} {fs} {k} {vs} e h = subst (λ (l : List Decimal). SideStands dir l fs k) e (record { first = h .first; second = h .second; third = h .third })
 
 pub record Terms-of (s : Scenario) (medium : ℕ) (r : Contaminant) (f : Factors) (p : Prepared) (t : Toxicity) (k : Terms) : Type 0 where
   pub inputs : Accepted s medium r
@@ -67,10 +68,10 @@ module _ {s : Scenario} {medium : ℕ} {r : Contaminant} {f : Factors} {p : Prep
   same : numberValues Up (p .factors) t ≡ valuesOf Up (inputsOf s r)
   same = values-same Up (h .factors) (h .prepared) (h .toxicity)
 
-  pub risk-terms : SideStands (valuesOf Up (inputsOf s r)) (pathwaysOf medium (r .class) 0) (k .risk)
+  pub risk-terms : SideStands Up (valuesOf Up (inputsOf s r)) (pathwaysOf medium (r .class) 0) (k .risk)
   risk-terms = sides same (h .terms .risk)
 
-  pub hazard-terms : SideStands (valuesOf Up (inputsOf s r)) (pathwaysOf medium (r .class) 1) (k .hazard)
+  pub hazard-terms : SideStands Up (valuesOf Up (inputsOf s r)) (pathwaysOf medium (r .class) 1) (k .hazard)
   hazard-terms = sides same (h .terms .hazard)
 
   pub wide : (Wide (f .tr) × WideSide (k .risk)) × (Wide (f .thi) × WideSide (k .hazard))
