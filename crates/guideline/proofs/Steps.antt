@@ -129,7 +129,7 @@ module _ {s : Scenario} {medium : ℕ} {r : Contaminant} {f : Factors} {p : Prep
       sym (rw (column-is risk-column, column-is hazard-column))
 
 -- ---- the conditions that were passed
-one-or-two : (n : ℕ) → oneOrTwo n ≡ true → OneOrTwo n
+pub one-or-two : (n : ℕ) → oneOrTwo n ≡ true → OneOrTwo n
 one-or-two n = cases (eqb n 1) (eqb n 2) refl refl
   where
     cases : (b c : Bool) → eqb n 1 ≡ b → eqb n 2 ≡ c → b || c ≡ true → OneOrTwo n

@@ -2,3 +2,4 @@ pub mod Share
 pub mod Verdict
 pub mod ListCall
 pub mod Promise
+pub mod State

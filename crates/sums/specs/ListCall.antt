@@ -25,15 +25,18 @@ abbrev pub workingTarget : Scenario → ℕ → Decimal
 workingTarget s zero = workingOf (s .tr)
 workingTarget s (suc n) = workingOf (s .thi)
 
--- 9: the decimals of a block on a side: upper and lower terms and their sums, guidelines, shares, running sums
-abbrev pub blockDecimals : Scenario → ℕ → ℕ → Running → Contaminant → List Decimal
-blockDecimals s medium side t r =
-    sideDecimals (valuesOf Up (inputsOf s r)) (workingTarget s side) (pathwaysOf medium (r .class) side) ++
-    (termOf (valuesOf Down (inputsOf s r)) Down (getD (pathwaysOf medium (r .class) side) 0 none) ∷
+-- the lower terms of a side and their sum, the two shares, the two running sums
+abbrev pub sumDecimals : Scenario → ℕ → ℕ → Running → Contaminant → List Decimal
+sumDecimals s medium side t r =
+    termOf (valuesOf Down (inputsOf s r)) Down (getD (pathwaysOf medium (r .class) side) 0 none) ∷
     (termOf (valuesOf Down (inputsOf s r)) Down (getD (pathwaysOf medium (r .class) side) 1 none) ∷
     (termOf (valuesOf Down (inputsOf s r)) Down (getD (pathwaysOf medium (r .class) side) 2 none) ∷
     (termSum s medium r Down side ∷ (shareOf s medium r Down side ∷ (shareOf s medium r Up side ∷
-    (next s medium side t r .lower ∷ (next s medium side t r .upper ∷ []))))))))
+    (next s medium side t r .lower ∷ (next s medium side t r .upper ∷ [])))))))
+
+-- 9: the decimals of a block on a side: the upper terms, their sum and the guidelines, and those of the sums
+abbrev pub blockDecimals : Scenario → ℕ → ℕ → Running → Contaminant → List Decimal
+blockDecimals s medium side t r = sideDecimals (valuesOf Up (inputsOf s r)) (workingTarget s side) (pathwaysOf medium (r .class) side) ++ sumDecimals s medium side t r
 
 -- ---- what comes back
 abbrev pub zeroSums : SideSums

@@ -1,0 +1,19 @@
+-- `sums::run_ranged` meets its contract. Assumes nothing.
+use borrow.Author.Needs.{needs}
+use Rattle.sums.proofs.run_ranged.Statement.{statement}
+use Rattle.sums.proofs.run_ranged.Tie as tie
+
+both-requires : tie.Need-both-requires
+both-requires c κs = search needs
+
+both-requires-2 : tie.Need-both-requires-2
+both-requires-2 c κs = search needs
+
+both-requires-3 : tie.Need-both-requires-3
+both-requires-3 c κs = search needs
+
+returns : tie.Need-returns
+returns c = rw (c .both3 .ensures, c .before .before .before .before .both .ensures, c .before .both2 .ensures)
+
+pub run-ranged-spec : {M : Type 1} → statement M
+run-ranged-spec = tie.close (tie.spec both-requires both-requires-2 both-requires-3 returns)
