@@ -5,9 +5,9 @@ use mathlib.Core.List.{List, [], _∷_, map}
 use Prim.Native.Nat.{ℕ, zero, suc, _+_, _*_, _^_, _≤_, _<_}
 use native.Mathlib.Nat.{mul-le-mul-right, mul-lt-mul-of-pos-right, zero-mul}
 use native.Mathlib.Omega.{arith}
-use lib.Dec.{leb, lit<, lit≤}
+use lib.Dec.{eqb, leb, lit<, lit≤}
 use lib.ListN.{length}
-use borrow.Author.Tests.{leb-true, leb-false}
+use borrow.Author.Tests.{eqb-true, le-leb, leb-true, leb-false}
 use Rattle.rounding.specs.declared.Direction.{Direction}
 use Rattle.rounding.specs.declared.Direction.the-variants.{Down, Up}
 use Rattle.rounding.specs.Within.{Within}
@@ -15,8 +15,9 @@ use Rattle.rounding.specs.Biased.{one}
 use Rattle.rounding.proofs.Distances.{parts}
 use Rattle.decimal.specs.declared.Decimal.{Decimal}
 use Rattle.decimal.specs.Decimal.{zeroOf, valueOf, isOperand, biasedOf, areOperands, atMostOf, workingOf}
-use Rattle.decimal.specs.Fraction.{Fraction, given, times, AtMost}
-use Rattle.decimal.specs.Lists.{added}
+use Rattle.decimal.specs.Fraction.{Fraction, given, times, plus, AtMost}
+use Rattle.decimal.specs.Exponent.{raise}
+use Rattle.decimal.specs.Lists.{added, plusAll}
 use Rattle.decimal.proofs.Laws.{Operable, working-value}
 use Rattle.decimal.proofs.Approximation.{Approx, Fair, fair-operable, working-fair}
 use Rattle.decimal.proofs.Approximation.Fair.{none, some}
@@ -25,7 +26,7 @@ use Rattle.inputs.specs.declared.Scenario.{Scenario}
 use Rattle.inputs.specs.declared.Contaminant.{Contaminant}
 use Rattle.inputs.specs.Inputs.{scenarioDecimals}
 use Rattle.inputs.specs.Valid.{validOf, allValid}
-use Rattle.inputs.proofs.Tests.{Small, valid-small, valid-at}
+use Rattle.inputs.proofs.Tests.{Small, and-split, valid-small, valid-at}
 use Rattle.guideline.specs.Column.{Accepted}
 use Rattle.guideline.specs.Promise.{targetOf}
 use Rattle.sums.specs.declared.Verdict.{Verdict}
@@ -34,7 +35,7 @@ use Rattle.sums.specs.declared.SideSums.{SideSums}
 use Rattle.sums.specs.Share.{Running, start, shareOf, exactShare}
 use Rattle.sums.specs.Verdict.{verdictNumber, verdictOf}
 use Rattle.sums.specs.ListCall.{workingTarget, sideSums, sumsOf}
-use Rattle.sums.specs.Promise.{exactSum, somePathway, sideAt, more, less, Enclosed, MoreThan, Judged}
+use Rattle.sums.specs.Promise.{exactSum, somePathway, noConcentration, sideAt, more, less, Enclosed, MoreThan, Judged}
 use Rattle.sums.proofs.ShareBounds.{AllAccepted, list-bounds}
 use Rattle.sums.proofs.ShareBounds.AllAccepted.{nobody, also}
 use Rattle.sums.proofs.Runs.{runAll, run-lower, run-upper, run-any, AcceptedList, accepted-list}
@@ -149,6 +150,22 @@ given-same : (a b : Decimal) → valueOf a ≡ valueOf b → given a ≡ given b
 unfolding given
 given-same a b e = ap (λ (n : ℕ). record { top = n; bottom = one }) e
 
+-- ---- concentrations of zero add up to zero
+zero-share : (s : Scenario) (medium side : ℕ) (r : Contaminant) → r .c .m ≡ 0 → exactShare s medium side r .top ≡ 0
+unfolding exactShare given
+zero-share s medium side r h = rw (h, zero-mul (10 ^ raise (r .c .e))) (zero-mul _)
+
+zero-sum : (s : Scenario) (medium side : ℕ) (rs : List Contaminant) (p : Fraction) → p .top ≡ 0 → noConcentration rs ≡ true → plusAll p (map (exactShare s medium side) rs) .top ≡ 0
+zero-sum s medium side [] p e h = e
+zero-sum s medium side (r ∷ rs) p e h =
+    let k = and-split (eqb (r .c .m) 0) (noConcentration rs) h in
+    let z = zero-share s medium side r (eqb-true (r .c .m) 0 (k .0)) in
+    zero-sum s medium side rs (plus p (exactShare s medium side r)) (rw (e, z, zero-mul (exactShare s medium side r .bottom), zero-mul (p .bottom))) (k .1)
+
+upper-zero : {w : ℕ} {d : Decimal} {q : Fraction} → Fair Up 139 w d q → q .top ≡ 0 → valueOf d ≡ 0
+upper-zero (none e t b) h = ap valueOf e ∙ zero-mul (10 ^ 3000)
+upper-zero (some f) h = absurd (omega (arith, f .top, h))
+
 -- the scenario of a list that has a record
 scenario-valid : (s : Scenario) (medium : ℕ) (rs : List Contaminant) → AllAccepted s medium rs → 1 ≤ length rs → allValid (scenarioDecimals s) ≡ true
 scenario-valid s medium [] nobody h = absurd (omega (arith, h))
@@ -192,6 +209,14 @@ module _ (s : Scenario) (medium : ℕ) (rs : List Contaminant) (h : numberOf (su
       let a = below (run .lower) (exactSum s medium side rs) low in
       let b = above (run .upper) (exactSum s medium side rs) up in
       rw side-is (record { below = a .side; above = b .side; lower-near = a .near; upper-near = b .near })
+
+  -- with a pathway and C zero throughout the verdict is "within"
+  pub zero-within : somePathway s medium side rs ≡ true → noConcentration rs ≡ true → verdictNumber (sideAt (sumsOf s medium rs) side .verdict) ≡ 1
+  unfolding verdictOf
+  zero-within k z =
+      let u = upper-zero up (zero-sum s medium side rs _ refl z) in
+      let e = at-most-is (run .upper) (workingTarget s side) (fair-operable up) target-operable ∙ le-leb (valueOf (run .upper)) (valueOf (workingTarget s side)) (omega (arith, u)) in
+      rw (side-is, any-is, k, e)
 
   -- DEMAND 3: "none" exactly when there is no pathway; "within" only if the exact sum is at most the target, "above" only if it is more,
   -- "undecided" only if the target differs from it by at most 2/1,000,000 of it

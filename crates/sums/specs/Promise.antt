@@ -1,8 +1,9 @@
 -- The words of demand 3 after its first sentence.
 use mathlib.Core.Path.{_≡_}
-use mathlib.Core.Bool.{Bool, true, false, _||_}
+use mathlib.Core.Bool.{Bool, true, false, _&&_, _||_}
 use mathlib.Core.List.{List, [], _∷_, map}
 use Prim.Native.Nat.{ℕ, zero, suc}
+use lib.Dec.{eqb}
 use Rattle.decimal.specs.declared.Decimal.{Decimal}
 use Rattle.decimal.specs.Fraction.{Fraction, nothing, given, times, plus, AtMost}
 use Rattle.decimal.specs.Lists.{plusAll}
@@ -24,6 +25,11 @@ exactSum s medium side rs = plusAll nothing (map (exactShare s medium side) rs)
 abbrev pub somePathway : Scenario → ℕ → ℕ → List Contaminant → Bool
 somePathway s medium side [] = false
 somePathway s medium side (r ∷ rs) = anyPresent (exactValues (inputsOf s r)) (pathwaysOf medium (r .class) side) || somePathway s medium side rs
+
+-- C is zero throughout
+abbrev pub noConcentration : List Contaminant → Bool
+noConcentration [] = true
+noConcentration (r ∷ rs) = eqb (r .c .m) 0 && noConcentration rs
 
 abbrev pub sideAt : SumsAnswer → ℕ → SideSums
 sideAt a zero = a .risk

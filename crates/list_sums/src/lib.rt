@@ -1,0 +1,19 @@
+// The list call: the sums and the verdicts of a lent list of contaminants, record by record.
+use inputs::Contaminant;
+use inputs::Scenario;
+use sums::SumsAnswer;
+ghost use mathlib.Core.Path.{_≡_};
+ghost use Rattle.sums.specs.ListCall.{sumsOf};
+
+// The answer of a list: the first state, a step for each record in its order, and the answer of the last state.
+pub fn sums_of_list(s: Scenario, medium: u32, list: &[Contaminant]) -> SumsAnswer
+    ensures { λ a. ⌜ a ≡ sumsOf s medium (now (list .entry)) ⌝ }
+{
+    let mut t = sums::start(s, medium, list.len());
+    let mut i: usize = 0;
+    while i < list.len() {
+        t = sums::step(t, list[i]);
+        i += 1;
+    }
+    sums::finish(t)
+}
