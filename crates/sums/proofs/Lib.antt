@@ -4,3 +4,4 @@ pub mod Verdicts
 pub mod States
 pub mod NextSums
 pub mod Steps
+pub mod ExampleSums

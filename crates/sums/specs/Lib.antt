@@ -3,3 +3,4 @@ pub mod Verdict
 pub mod ListCall
 pub mod Promise
 pub mod State
+pub mod Example
