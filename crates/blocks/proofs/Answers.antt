@@ -10,10 +10,11 @@ use Rattle.outcome.specs.declared.Refusal.the-variants.{Length, Check, Kind, Fi
 use Rattle.words.specs.Words.{wordAt, partOf}
 use Rattle.words.proofs.Parts.{word-first}
 use Rattle.inputs.specs.declared.Contaminant.{Contaminant}
+use Rattle.inputs.specs.Rules.{scenarioFits, contaminantFits, lacksFactor}
 use Rattle.blocks.specs.declared.Header.{Header}
 use Rattle.blocks.specs.declared.HeaderRead.the-variants as H
 use Rattle.blocks.specs.declared.ContaminantRead.the-variants as C
-use Rattle.blocks.specs.Rules.{headerValid, contaminantValid, countOk, factorsKnown}
+use Rattle.blocks.specs.Rules.{countOk}
 use Rattle.blocks.specs.Blocks.{scenarioAt, headerAt, headerUnused, contaminantAt, contaminantUnused, soundAt, headerRead, contaminantRead}
 use Rattle.blocks.proofs.Parts.{inner, inner-first, whole, contaminant-part, contaminant-unused-part, header-part, header-unused-part}
 
@@ -34,8 +35,8 @@ module _ (s : List ℕ) (at : ℕ) where
   pub contaminant-here : (r : Contaminant) → r ≡ contaminantAt (take (at + 508 - (at + 4)) (drop (at + 4) s)) 4 → r ≡ contaminantAt (partOf s at 512) 8
   contaminant-here r e = e ∙ ap (λ (p : List ℕ). contaminantAt p 4) (inner s at) ∙ contaminant-part (partOf s at 512)
 
-  pub contaminant-fields-here : (r : Contaminant) (t x y : Bool) → t ≡ x && y → x ≡ contaminantValid r → y ≡ contaminantUnused (take (at + 508 - (at + 4)) (drop (at + 4) s)) 4
-      → t ≡ contaminantValid r && contaminantUnused (partOf s at 512) 8
+  pub contaminant-fields-here : (r : Contaminant) (t x y : Bool) → t ≡ x && y → x ≡ contaminantFits r → y ≡ contaminantUnused (take (at + 508 - (at + 4)) (drop (at + 4) s)) 4
+      → t ≡ contaminantFits r && contaminantUnused (partOf s at 512) 8
   contaminant-fields-here r t x y e f g =
       e ∙ ap₂ (λ (u v : Bool). u && v) f (g ∙ ap (λ (p : List ℕ). contaminantUnused p 4) (inner s at) ∙ contaminant-unused-part (partOf s at 512))
 
@@ -43,8 +44,8 @@ module _ (s : List ℕ) where
   pub header-here : (h : Header) → h ≡ headerAt (take 504 (drop 4 s)) 4 → h ≡ headerAt (partOf s 0 512) 8
   header-here h e = e ∙ ap (λ (p : List ℕ). headerAt p 4) (inner-first s) ∙ header-part (partOf s 0 512)
 
-  pub header-fields-here : (h : Header) (t x y : Bool) → t ≡ x && y → x ≡ headerValid h → y ≡ headerUnused (take 504 (drop 4 s)) 4
-      → t ≡ headerValid h && headerUnused (partOf s 0 512) 8
+  pub header-fields-here : (h : Header) (t x y : Bool) → t ≡ x && y → x ≡ scenarioFits (h .scenario) (h .medium) → y ≡ headerUnused (take 504 (drop 4 s)) 4
+      → t ≡ scenarioFits (h .scenario) (h .medium) && headerUnused (partOf s 0 512) 8
   header-fields-here h t x y e f g =
       e ∙ ap₂ (λ (u v : Bool). u && v) f (g ∙ ap (λ (p : List ℕ). headerUnused p 4) (inner-first s) ∙ header-unused-part (partOf s 0 512))
 
@@ -63,7 +64,7 @@ module _ (b : List ℕ) (place previous : ℕ) where
   contaminant-kind n s k = simp (n, s, k)
 
   module _ (p : Passed b place 2) (r : Contaminant) (is : r ≡ contaminantAt b 8) where
-    pub contaminant-field : contaminantValid r && contaminantUnused b 8 ≡ false → C.Refused Field ≡ contaminantRead b place previous
+    pub contaminant-field : contaminantFits r && contaminantUnused b 8 ≡ false → C.Refused Field ≡ contaminantRead b place previous
     unfolding contaminantRead
     contaminant-field h = let f = rw is at h in simp (p .long, p .sound, p .first, f)
 
@@ -71,11 +72,11 @@ module _ (b : List ℕ) (place previous : ℕ) where
     unfolding contaminantAt
     id-is t h = ap (λ (x : Contaminant). leb (x .id) previous) (sym is) ∙ h
 
-    pub contaminant-order : contaminantValid r && contaminantUnused b 8 ≡ true → leb (r .id) previous ≡ true → C.Refused Order ≡ contaminantRead b place previous
+    pub contaminant-order : contaminantFits r && contaminantUnused b 8 ≡ true → leb (r .id) previous ≡ true → C.Refused Order ≡ contaminantRead b place previous
     unfolding contaminantRead
     contaminant-order h i = let f = rw is at h in let o = id-is true i in simp (p .long, p .sound, p .first, f, o)
 
-    pub contaminant-found : contaminantValid r && contaminantUnused b 8 ≡ true → leb (r .id) previous ≡ false → C.Found r ≡ contaminantRead b place previous
+    pub contaminant-found : contaminantFits r && contaminantUnused b 8 ≡ true → leb (r .id) previous ≡ false → C.Found r ≡ contaminantRead b place previous
     unfolding contaminantRead
     contaminant-found h i = let f = rw is at h in let o = id-is false i in ap C.Found is ∙ simp (p .long, p .sound, p .first, f, o)
 
@@ -94,27 +95,31 @@ module _ (b : List ℕ) (blocks : ℕ) where
   header-kind n s k = simp (n, s, k)
 
   module _ (p : Passed b 0 1) (h : Header) (is : h ≡ headerAt b 8) where
-    pub header-field : headerValid h && headerUnused b 8 ≡ false → H.Refused Field ≡ headerRead b blocks
+    fields-are : (t : Bool) → scenarioFits (h .scenario) (h .medium) && headerUnused b 8 ≡ t → scenarioFits (scenarioAt b 16) (wordAt b 8) && headerUnused b 8 ≡ t
+    unfolding headerAt
+    fields-are t e = ap (λ (x : Header). scenarioFits (x .scenario) (x .medium) && headerUnused b 8) (sym is) ∙ e
+
+    pub header-field : scenarioFits (h .scenario) (h .medium) && headerUnused b 8 ≡ false → H.Refused Field ≡ headerRead b blocks
     unfolding headerRead
-    header-field v = let f = rw is at v in simp (p .long, p .sound, p .first, f)
+    header-field v = let f = fields-are false v in simp (p .long, p .sound, p .first, f)
 
     count-is : (t : Bool) → countOk (h .count) blocks ≡ t → countOk (wordAt b 12) blocks ≡ t
     unfolding headerAt
     count-is t e = ap (λ (x : Header). countOk (x .count) blocks) (sym is) ∙ e
 
-    factors-are : (t : Bool) → factorsKnown (h .scenario) ≡ t → factorsKnown (scenarioAt b 16) ≡ t
+    factors-are : (t : Bool) → lacksFactor (h .scenario) ≡ t → lacksFactor (scenarioAt b 16) ≡ t
     unfolding headerAt
-    factors-are t e = ap (λ (x : Header). factorsKnown (x .scenario)) (sym is) ∙ e
+    factors-are t e = ap (λ (x : Header). lacksFactor (x .scenario)) (sym is) ∙ e
 
-    module _ (v : headerValid h && headerUnused b 8 ≡ true) where
+    module _ (v : scenarioFits (h .scenario) (h .medium) && headerUnused b 8 ≡ true) where
       pub header-count : countOk (h .count) blocks ≡ false → H.Refused Count ≡ headerRead b blocks
       unfolding headerRead
-      header-count n = let f = rw is at v in let k = count-is false n in simp (p .long, p .sound, p .first, f, k)
+      header-count n = let f = fields-are true v in let k = count-is false n in simp (p .long, p .sound, p .first, f, k)
 
-      pub header-factor : countOk (h .count) blocks ≡ true → factorsKnown (h .scenario) ≡ false → H.Refused Factor ≡ headerRead b blocks
+      pub header-factor : countOk (h .count) blocks ≡ true → lacksFactor (h .scenario) ≡ true → H.Refused Factor ≡ headerRead b blocks
       unfolding headerRead
-      header-factor n m = let f = rw is at v in let k = count-is true n in let x = factors-are false m in simp (p .long, p .sound, p .first, f, k, x)
+      header-factor n m = let f = fields-are true v in let k = count-is true n in let x = factors-are true m in simp (p .long, p .sound, p .first, f, k, x)
 
-      pub header-found : countOk (h .count) blocks ≡ true → factorsKnown (h .scenario) ≡ true → H.Found h ≡ headerRead b blocks
+      pub header-found : countOk (h .count) blocks ≡ true → lacksFactor (h .scenario) ≡ false → H.Found h ≡ headerRead b blocks
       unfolding headerRead
-      header-found n m = let f = rw is at v in let k = count-is true n in let x = factors-are true m in ap H.Found is ∙ simp (p .long, p .sound, p .first, f, k, x)
+      header-found n m = let f = fields-are true v in let k = count-is true n in let x = factors-are false m in ap H.Found is ∙ simp (p .long, p .sound, p .first, f, k, x)

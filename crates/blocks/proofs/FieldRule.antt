@@ -8,23 +8,28 @@ use Rattle.words.specs.Words.{wordAt, zeros}
 use Rattle.fields.specs.Fields.{decimalsAt, fieldsOk, unusedZero}
 use Rattle.fields.proofs.Fields.{fields-split}
 use Rattle.inputs.specs.Valid.{allValid}
-use Rattle.blocks.specs.Rules.{oneOrTwo, headerValid, contaminantValid}
-use Rattle.blocks.specs.Blocks.{scenarioAt, headerAt, headerUnused, contaminantAt, contaminantUnused}
+use Rattle.inputs.specs.Rules.{oneOrTwo, scenarioFits, contaminantFits}
+use Rattle.blocks.specs.Blocks.{scenarioAt, headerUnused, contaminantAt, contaminantUnused}
 
 regroup : (w v u z : Bool) → (w && v) && (u && z) ≡ w && ((v && u) && z)
 regroup true true u z = refl
 regroup true false u z = refl
 regroup false v u z = refl
 
-pub header-fields : (b : List ℕ) → headerValid (headerAt b 8) && headerUnused b 8 ≡ oneOrTwo (wordAt b 8) && (fieldsOk b 16 12 && zeros b 112 396)
-unfolding headerValid headerUnused headerAt scenarioAt decimalsAt
+regroup-two : (w i v u z : Bool) → (w && (i && v)) && (u && z) ≡ (w && i) && ((v && u) && z)
+regroup-two true true v u z = regroup true v u z
+regroup-two true false v u z = refl
+regroup-two false i v u z = refl
+
+pub header-fields : (b : List ℕ) → scenarioFits (scenarioAt b 16) (wordAt b 8) && headerUnused b 8 ≡ oneOrTwo (wordAt b 8) && (fieldsOk b 16 12 && zeros b 112 396)
+unfolding headerUnused scenarioAt decimalsAt
 header-fields b =
     regroup (oneOrTwo (wordAt b 8)) (allValid (decimalsAt b 16 12)) (unusedZero b 16 12) (zeros b 112 396)
     ∙ ap (λ (x : Bool). oneOrTwo (wordAt b 8) && (x && zeros b 112 396)) (sym (fields-split b 16 12))
 
-pub contaminant-fields : (b : List ℕ) → contaminantValid (contaminantAt b 8) && contaminantUnused b 8
+pub contaminant-fields : (b : List ℕ) → contaminantFits (contaminantAt b 8) && contaminantUnused b 8
     ≡ (oneOrTwo (wordAt b 8) && not (eqb (wordAt b 12) 0)) && (fieldsOk b 16 8 && zeros b 80 428)
-unfolding contaminantValid contaminantUnused contaminantAt decimalsAt
+unfolding contaminantUnused contaminantAt decimalsAt
 contaminant-fields b =
-    regroup (oneOrTwo (wordAt b 8) && not (eqb (wordAt b 12) 0)) (allValid (decimalsAt b 16 8)) (unusedZero b 16 8) (zeros b 80 428)
+    regroup-two (oneOrTwo (wordAt b 8)) (not (eqb (wordAt b 12) 0)) (allValid (decimalsAt b 16 8)) (unusedZero b 16 8) (zeros b 80 428)
     ∙ ap (λ (x : Bool). (oneOrTwo (wordAt b 8) && not (eqb (wordAt b 12) 0)) && (x && zeros b 80 428)) (sym (fields-split b 16 8))

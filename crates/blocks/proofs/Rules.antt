@@ -6,8 +6,9 @@ use Prim.Native.Nat.{ℕ, _≤_}
 use native.Mathlib.Omega.{arith}
 use lib.Dec.{eqb, leb}
 use borrow.Author.Tests.{leb-true, eqb-true}
+use Rattle.inputs.specs.Rules.{oneOrTwo}
 use Rattle.inputs.proofs.Tests.{and-split}
-use Rattle.blocks.specs.Rules.{oneOrTwo, inFile}
+use Rattle.blocks.specs.Rules.{inFile}
 
 pub in-file : (n : ℕ) → inFile n ≡ true → (1 ≤ n) × (n ≤ 120)
 unfolding inFile
@@ -18,5 +19,4 @@ or-cases true y h = inl refl
 or-cases false y h = inr h
 
 pub one-or-two : (n : ℕ) → oneOrTwo n ≡ true → n ≤ 2
-unfolding oneOrTwo
 one-or-two n h = ⊎-elim (λ p. omega (arith, eqb-true n 1 p)) (λ p. omega (arith, eqb-true n 2 p)) (or-cases (eqb n 1) (eqb n 2) h)

@@ -9,12 +9,13 @@ use Rattle.words.specs.Words.{wordAt, wordSum, zeros}
 use Rattle.fields.specs.Fields.{decimalAt, unusedZero}
 use Rattle.inputs.specs.declared.Scenario.{Scenario}
 use Rattle.inputs.specs.declared.Contaminant.{Contaminant}
+use Rattle.inputs.specs.Rules.{scenarioFits, contaminantFits, lacksFactor}
 use Rattle.blocks.specs.declared.Header.{Header}
 use Rattle.blocks.specs.declared.HeaderRead.{HeaderRead}
 use Rattle.blocks.specs.declared.HeaderRead.the-variants as H
 use Rattle.blocks.specs.declared.ContaminantRead.{ContaminantRead}
 use Rattle.blocks.specs.declared.ContaminantRead.the-variants as C
-use Rattle.blocks.specs.Rules.{headerValid, contaminantValid, countOk, factorsKnown}
+use Rattle.blocks.specs.Rules.{countOk}
 
 -- EF ED BW AT IR IRA PEF ET RF SA TR THI from `at`
 unfoldable pub scenarioAt : List ℕ → ℕ → Scenario
@@ -70,9 +71,9 @@ headerRead b blocks =
     cond (not (eqb (length b) 512)) (H.Refused Length)
     (cond (not (soundAt b 0)) (H.Refused Check)
     (cond (not (eqb (wordAt b 0) 1)) (H.Refused Kind)
-    (cond (not (headerValid (headerAt b 8) && headerUnused b 8)) (H.Refused Field)
+    (cond (not (scenarioFits (scenarioAt b 16) (wordAt b 8) && headerUnused b 8)) (H.Refused Field)
     (cond (not (countOk (wordAt b 12) blocks)) (H.Refused Count)
-    (cond (not (factorsKnown (scenarioAt b 16))) (H.Refused Factor)
+    (cond (lacksFactor (scenarioAt b 16)) (H.Refused Factor)
     (H.Found (headerAt b 8)))))))
 
 -- the contaminant block b at a place, after the previous id: what it holds, or 2, 3, 4, 7
@@ -81,6 +82,6 @@ contaminantRead b place previous =
     cond (not (eqb (length b) 512)) (C.Refused Length)
     (cond (not (soundAt b place)) (C.Refused Check)
     (cond (not (eqb (wordAt b 0) 2)) (C.Refused Kind)
-    (cond (not (contaminantValid (contaminantAt b 8) && contaminantUnused b 8)) (C.Refused Field)
+    (cond (not (contaminantFits (contaminantAt b 8) && contaminantUnused b 8)) (C.Refused Field)
     (cond (leb (wordAt b 12) previous) (C.Refused Order)
     (C.Found (contaminantAt b 8))))))

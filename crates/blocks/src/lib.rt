@@ -8,7 +8,7 @@ ghost use Prim.Native.Nat.{_+_, _≤_};
 ghost use lib.Dec.{eqb};
 ghost use lib.ListN.{length};
 ghost use Rattle.words.specs.Words.{partOf};
-ghost use Rattle.blocks.specs.Rules.{oneOrTwo, inFile, countOk, headerValid, contaminantValid, factorsKnown};
+ghost use Rattle.blocks.specs.Rules.{inFile, countOk};
 ghost use Rattle.blocks.specs.Blocks.{scenarioAt, headerAt, contaminantAt, headerUnused, contaminantUnused, soundAt, headerRead, contaminantRead};
 
 // What a header block holds: the medium (1 soil, 2 water), how many contaminants follow, the scenario.
@@ -30,16 +30,6 @@ pub enum ContaminantRead {
     Refused(Refusal),
 }
 
-// Whether a medium or a class is 1 or 2.
-pub fn one_or_two(n: u32) -> bool
-    ensures { λ b. ⌜ b ≡ oneOrTwo n ⌝ }
-{
-    if n == 1 {
-        return true;
-    }
-    n == 2
-}
-
 // Whether a count or a place is from 1 to 120.
 pub fn in_file(n: u32) -> bool
     ensures { λ b. ⌜ b ≡ inFile n ⌝ }
@@ -55,34 +45,6 @@ fn count_ok(count: u32, blocks: u32) -> bool
         return false;
     }
     count + 1 == blocks
-}
-
-// Whether the medium and the decimals of a header keep their rule.
-pub fn header_valid(h: Header) -> bool
-    ensures { λ b. ⌜ b ≡ headerValid h ⌝ }
-{
-    let s = h.scenario;
-    let decimals = inputs::valid_scenario(s);
-    inputs::both(one_or_two(h.medium), decimals)
-}
-
-// Whether the class, the id and the decimals of a contaminant keep their rule.
-pub fn contaminant_valid(r: Contaminant) -> bool
-    ensures { λ b. ⌜ b ≡ contaminantValid r ⌝ }
-{
-    let decimals = inputs::valid_contaminant(r);
-    let words = inputs::both(one_or_two(r.class), r.id != 0);
-    inputs::both(words, decimals)
-}
-
-// Whether none of the factors EF, ED, BW, AT, TR, THI is zero.
-pub fn factors_known(s: Scenario) -> bool
-    ensures { λ b. ⌜ b ≡ factorsKnown s ⌝ }
-{
-    let frequency = inputs::both(s.ef.m != 0, s.ed.m != 0);
-    let body = inputs::both(s.bw.m != 0, s.at.m != 0);
-    let targets = inputs::both(s.tr.m != 0, s.thi.m != 0);
-    inputs::both(frequency, inputs::both(body, targets))
 }
 
 // Whether the slice has a whole block at `at`.
@@ -195,14 +157,14 @@ pub fn read_header(site: &[u8], blocks: u32) -> HeaderRead
     }
     let part = &site[4..508];
     let h = get_header(part);
-    if !inputs::both(header_valid(h), header_unused(part)) {
+    let s = h.scenario;
+    if !inputs::both(inputs::scenario_fits(s, h.medium), header_unused(part)) {
         return HeaderRead::Refused(Refusal::Field);
     }
     if !count_ok(h.count, blocks) {
         return HeaderRead::Refused(Refusal::Count);
     }
-    let s = h.scenario;
-    if !factors_known(s) {
+    if inputs::lacks_factor(s) {
         return HeaderRead::Refused(Refusal::Factor);
     }
     HeaderRead::Found(h)
@@ -226,7 +188,7 @@ pub fn read_contaminant(site: &[u8], at: usize, place: u32, previous: u32) -> Co
     let to = at + 508;
     let part = &site[from..to];
     let r = get_contaminant(part);
-    if !inputs::both(contaminant_valid(r), contaminant_unused(part)) {
+    if !inputs::both(inputs::contaminant_fits(r), contaminant_unused(part)) {
         return ContaminantRead::Refused(Refusal::Field);
     }
     if r.id <= previous {

@@ -25,6 +25,7 @@ use Rattle.outcome.specs.declared.Refusal.the-variants.{Field, Factor, Pathway,
 use Rattle.outcome.specs.Outcome.{numberOf}
 use Rattle.inputs.specs.declared.Scenario.{Scenario}
 use Rattle.inputs.specs.declared.Contaminant.{Contaminant}
+use Rattle.inputs.specs.Rules.{scenarioFits, lacksFactor, contaminantFits}
 use Rattle.terms.specs.Formula.{Formula, TR, THI, none as noFormula, pathwaysOf, derived}
 use Rattle.terms.specs.Term.{look, termOf, totalOf, inputsOf, valuesOf}
 use Rattle.terms.specs.ExactTerm.{exactly, exactPresent, exactTerm, exactTotal, exactValues, anyPresent}
@@ -35,7 +36,7 @@ use Rattle.terms.proofs.TermBounds.{Represents, term-fair, term-present}
 use Rattle.guideline.specs.declared.SideGuidelines.{SideGuidelines}
 use Rattle.guideline.specs.declared.GuidelineAnswer.{GuidelineAnswer}
 use Rattle.guideline.specs.Column.{Accepted}
-use Rattle.guideline.specs.Guideline.{sideOf, sideDecimals, allRanged, anyPathway, scenarioFits, lacksFactor, contaminantFits, refused, accepted, workedOut, guidelineOf}
+use Rattle.guideline.specs.Guideline.{sideOf, sideDecimals, allRanged, anyPathway, refused, accepted, workedOut, guidelineOf}
 use Rattle.guideline.specs.Promise.{targetOf, sideAt, pathwayAt, Kept, Promised}
 use Rattle.guideline.proofs.ColumnBounds.{Inside, value-inside}
 use Rattle.guideline.proofs.WorkedOut.{total-bounds, present-total}

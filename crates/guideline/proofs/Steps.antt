@@ -19,6 +19,7 @@ use Rattle.inputs.specs.declared.Scenario.{Scenario}
 use Rattle.inputs.specs.declared.Contaminant.{Contaminant}
 use Rattle.inputs.specs.Inputs.{scenarioDecimals, contaminantDecimals}
 use Rattle.inputs.specs.Valid.{validOf, allValid}
+use Rattle.inputs.specs.Rules.{oneOrTwo, scenarioFits, lacksFactor, contaminantFits}
 use Rattle.inputs.proofs.Tests.{and-split, valid-append}
 use Rattle.terms.specs.declared.numbers.Factors.{Factors}
 use Rattle.terms.specs.declared.numbers.Toxicity.{Toxicity}
@@ -38,7 +39,7 @@ use Rattle.terms.proofs.SameValues.{values-same}
 use Rattle.guideline.specs.declared.Column.{Column}
 use Rattle.guideline.specs.declared.GuidelineAnswer.{GuidelineAnswer}
 use Rattle.guideline.specs.Column.{ColumnFor, columnRanged, PrintableColumn, columnDecimals, Accepted}
-use Rattle.guideline.specs.Guideline.{oneOrTwo, scenarioFits, lacksFactor, contaminantFits, sideOf, anyPathway, refused, accepted, workedOut}
+use Rattle.guideline.specs.Guideline.{sideOf, anyPathway, refused, accepted, workedOut}
 use Rattle.guideline.proofs.ColumnBounds.{SideStands, ColumnStands, stands-wide, side-wide, stands-zero, column-stands, column-ranged, side-ranged, column-printable, column-is}
 use Rattle.guideline.proofs.WorkedOut.{any-total, worked-none, worked-accepted}
 

@@ -1,8 +1,7 @@
 -- The single guideline of paper 01: its eight decimals, or what is sent back.
-use mathlib.Core.Bool.{Bool, true, false, cond, not, _&&_, _||_}
+use mathlib.Core.Bool.{Bool, true, false, cond, _&&_, _||_}
 use mathlib.Core.List.{List, [], _∷_, _++_, map}
 use Prim.Native.Nat.{ℕ}
-use lib.Dec.{eqb}
 use lib.ListN.{getD}
 use Rattle.rounding.specs.declared.Direction.the-variants.{Down, Up}
 use Rattle.decimal.specs.declared.Decimal.{Decimal}
@@ -12,8 +11,7 @@ use Rattle.outcome.specs.declared.Refusal.{Refusal}
 use Rattle.outcome.specs.declared.Refusal.the-variants.{Accepted, Field, Factor, Pathway, Range}
 use Rattle.inputs.specs.declared.Scenario.{Scenario}
 use Rattle.inputs.specs.declared.Contaminant.{Contaminant}
-use Rattle.inputs.specs.Inputs.{scenarioDecimals, contaminantDecimals}
-use Rattle.inputs.specs.Valid.{allValid}
+use Rattle.inputs.specs.Rules.{scenarioFits, lacksFactor, contaminantFits}
 use Rattle.terms.specs.Formula.{Formula, none, pathwaysOf, TR, THI}
 use Rattle.terms.specs.Term.{look, presentOf, termOf, totalOf, inputsOf, valuesOf}
 use Rattle.guideline.specs.declared.SideGuidelines.{SideGuidelines}
@@ -29,22 +27,6 @@ sideOf vs target fs = record {
 }
 
 -- ---- the conditions
--- 4: a decimal or the medium breaks its rule
-abbrev pub oneOrTwo : ℕ → Bool
-oneOrTwo n = eqb n 1 || eqb n 2
-
-abbrev pub scenarioFits : Scenario → ℕ → Bool
-scenarioFits s medium = oneOrTwo medium && allValid (scenarioDecimals s)
-
--- 6: EF, ED, BW, AT, TR or THI zero
-abbrev pub lacksFactor : Scenario → Bool
-lacksFactor s =
-    not (not (eqb (s .ef .m) 0) && (not (eqb (s .ed .m) 0) && (not (eqb (s .bw .m) 0) && (not (eqb (s .at .m) 0) && (not (eqb (s .tr .m) 0) && not (eqb (s .thi .m) 0))))))
-
--- 4: a decimal, the class or the id breaks its rule
-abbrev pub contaminantFits : Contaminant → Bool
-contaminantFits r = oneOrTwo (r .class) && (not (eqb (r .id) 0) && allValid (contaminantDecimals r))
-
 -- 8: no pathway on either side
 abbrev pub anyPathway : List Decimal → List Formula → Bool
 anyPathway vs [] = false

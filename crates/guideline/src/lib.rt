@@ -3,6 +3,9 @@ use decimal::Decimal;
 use inputs::Contaminant;
 use inputs::Scenario;
 use inputs::both;
+use inputs::contaminant_fits;
+use inputs::lacks_factor;
+use inputs::scenario_fits;
 use outcome::Refusal;
 use rounding::Biased;
 use rounding::Direction;
@@ -10,8 +13,6 @@ use terms::pathways::Side;
 use terms::pathways::Terms;
 ghost use mathlib.Core.Path.{_≡_};
 ghost use mathlib.Core.Bool.{true, _&&_};
-ghost use Rattle.inputs.specs.Inputs.{scenarioDecimals, contaminantDecimals};
-ghost use Rattle.inputs.specs.Valid.{allValid};
 ghost use Rattle.rounding.specs.declared.Direction.the-variants.{Down, Up};
 ghost use Rattle.rounding.specs.Biased.{InRange};
 ghost use Rattle.rounding.specs.Operations.{quotientOf};
@@ -19,7 +20,7 @@ ghost use Rattle.terms.specs.Side.{Wide, WideSide};
 ghost use Rattle.terms.specs.Formula.{pathwaysOf};
 ghost use Rattle.terms.specs.Term.{inputsOf, valuesOf};
 ghost use Rattle.guideline.specs.Column.{ColumnFor, rangedOf, columnRanged, PrintableColumn, columnDecimals, Accepted};
-ghost use Rattle.guideline.specs.Guideline.{oneOrTwo as oneOrTwoOf, lacksFactor, scenarioFits, contaminantFits, zeroSide, refused as refusedOf, workedOut, guidelineOf};
+ghost use Rattle.guideline.specs.Guideline.{zeroSide, refused as refusedOf, workedOut, guidelineOf};
 
 // The guidelines of a side: three pathways and the total; zero where absent.
 pub struct SideGuidelines {
@@ -50,46 +51,6 @@ pub struct Column {
 pub struct Columns {
     pub risk: Column,
     pub hazard: Column,
-}
-
-// Whether a number is 1 or 2: a medium, or a class.
-pub fn one_or_two(n: u32) -> bool
-    ensures { λ b. ⌜ b ≡ oneOrTwoOf n ⌝ }
-{
-    if n == 1 {
-        return true;
-    }
-    n == 2
-}
-
-// Whether the medium and the scenario's decimals keep their rules.
-pub fn scenario_fits(s: Scenario, medium: u32) -> bool
-    ensures { λ b. ⌜ b ≡ scenarioFits s medium ⌝ }
-{
-    both(one_or_two(medium), inputs::valid_scenario(s))
-}
-
-// Whether the class, the id and the contaminant's decimals keep their rules.
-pub fn contaminant_fits(r: Contaminant) -> bool
-    ensures { λ b. ⌜ b ≡ contaminantFits r ⌝ }
-{
-    both(
-        one_or_two(r.class),
-        both(r.id != 0, inputs::valid_contaminant(r)),
-    )
-}
-
-// Whether EF, ED, BW, AT, TR or THI is zero.
-pub fn lacks_factor(s: Scenario) -> bool
-    ensures { λ b. ⌜ b ≡ lacksFactor s ⌝ }
-{
-    let ef = s.ef.m != 0;
-    let ed = s.ed.m != 0;
-    let bw = s.bw.m != 0;
-    let at = s.at.m != 0;
-    let tr = s.tr.m != 0;
-    let thi = s.thi.m != 0;
-    !both(ef, both(ed, both(bw, both(at, both(tr, thi)))))
 }
 
 // The guideline of a term or of a sum of terms: the target divided by it, down.

@@ -1,3 +1,4 @@
 pub mod Inputs
 pub mod Valid
+pub mod Rules
 pub mod BuiltIn

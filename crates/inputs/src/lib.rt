@@ -5,6 +5,7 @@ ghost use mathlib.Core.Bool.{_&&_};
 ghost use mathlib.Core.Path.{_≡_};
 ghost use Rattle.inputs.specs.BuiltIn.{builtInOf};
 ghost use Rattle.inputs.specs.Inputs.{scenarioDecimals, contaminantDecimals};
+ghost use Rattle.inputs.specs.Rules.{oneOrTwo, scenarioFits, contaminantFits, lacksFactor};
 ghost use Rattle.inputs.specs.Valid.{validOf, allValid};
 
 // The twelve factors of a scenario. Zero means not known, or not part of this scenario.
@@ -224,4 +225,41 @@ pub fn valid_contaminant(r: Contaminant) -> bool
             both(sfx, both(rfdo, both(rfdi, both(vf, both(pc, c))))),
         ),
     )
+}
+
+// Whether a number is 1 or 2: a medium, or a class.
+pub fn one_or_two(n: u32) -> bool
+    ensures { λ b. ⌜ b ≡ oneOrTwo n ⌝ }
+{
+    if n == 1 {
+        return true;
+    }
+    n == 2
+}
+
+// Whether the medium and the scenario's decimals keep their rules.
+pub fn scenario_fits(s: Scenario, medium: u32) -> bool
+    ensures { λ b. ⌜ b ≡ scenarioFits s medium ⌝ }
+{
+    both(one_or_two(medium), valid_scenario(s))
+}
+
+// Whether the class, the id and the contaminant's decimals keep their rules.
+pub fn contaminant_fits(r: Contaminant) -> bool
+    ensures { λ b. ⌜ b ≡ contaminantFits r ⌝ }
+{
+    both(one_or_two(r.class), both(r.id != 0, valid_contaminant(r)))
+}
+
+// Whether EF, ED, BW, AT, TR or THI is zero.
+pub fn lacks_factor(s: Scenario) -> bool
+    ensures { λ b. ⌜ b ≡ lacksFactor s ⌝ }
+{
+    let ef = s.ef.m != 0;
+    let ed = s.ed.m != 0;
+    let bw = s.bw.m != 0;
+    let at = s.at.m != 0;
+    let tr = s.tr.m != 0;
+    let thi = s.thi.m != 0;
+    !both(ef, both(ed, both(bw, both(at, both(tr, thi)))))
 }

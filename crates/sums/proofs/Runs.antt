@@ -16,11 +16,12 @@ use Rattle.outcome.specs.declared.Refusal.the-variants.{Length, Field, Factor, 
 use Rattle.outcome.specs.Outcome.{numberOf}
 use Rattle.inputs.specs.declared.Scenario.{Scenario}
 use Rattle.inputs.specs.declared.Contaminant.{Contaminant}
+use Rattle.inputs.specs.Rules.{scenarioFits, lacksFactor, contaminantFits}
 use Rattle.inputs.proofs.Tests.{and-split}
 use Rattle.terms.specs.Formula.{Formula, pathwaysOf}
 use Rattle.terms.specs.Term.{inputsOf, valuesOf}
 use Rattle.terms.specs.ExactTerm.{exactValues, anyPresent}
-use Rattle.guideline.specs.Guideline.{anyPathway, allRanged, scenarioFits, lacksFactor, contaminantFits}
+use Rattle.guideline.specs.Guideline.{anyPathway, allRanged}
 use Rattle.guideline.specs.Column.{Accepted}
 use Rattle.guideline.proofs.WorkedOut.{any-same}
 use Rattle.guideline.proofs.Steps.{accepted-inputs, values-of}

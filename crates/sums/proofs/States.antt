@@ -17,11 +17,11 @@ use Rattle.inputs.specs.declared.Contaminant.{Contaminant}
 use Rattle.inputs.specs.BuiltIn.{blank}
 use Rattle.inputs.specs.Inputs.{scenarioDecimals}
 use Rattle.inputs.specs.Valid.{validOf, allValid}
+use Rattle.inputs.specs.Rules.{oneOrTwo, scenarioFits, lacksFactor, contaminantFits}
 use Rattle.inputs.proofs.Tests.{and-split}
 use Rattle.terms.specs.Side.{OneOrTwo}
 use Rattle.terms.proofs.StandsLaws.{stands-most}
 use Rattle.terms.proofs.NumberValues.{zero-stands}
-use Rattle.guideline.specs.Guideline.{oneOrTwo, scenarioFits, lacksFactor, contaminantFits}
 use Rattle.guideline.proofs.Steps.{one-or-two}
 use Rattle.sums.specs.declared.State.{State}
 use Rattle.sums.specs.Share.{start}

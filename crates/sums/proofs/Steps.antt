@@ -15,6 +15,7 @@ use Rattle.inputs.specs.declared.Scenario.{Scenario}
 use Rattle.inputs.specs.declared.Contaminant.{Contaminant}
 use Rattle.inputs.specs.Inputs.{contaminantDecimals}
 use Rattle.inputs.specs.Valid.{allValid}
+use Rattle.inputs.specs.Rules.{contaminantFits}
 use Rattle.terms.specs.declared.numbers.Toxicity.{Toxicity}
 use Rattle.terms.specs.declared.pathways.Terms.{Terms}
 use Rattle.terms.specs.declared.pathways.Side.{Side}
@@ -23,7 +24,7 @@ use Rattle.terms.specs.Side.{TermsFor, OneOrTwo}
 use Rattle.terms.proofs.SameValues.{values-same}
 use Rattle.rounding.specs.Operations.{sumOf}
 use Rattle.guideline.specs.Column.{Accepted}
-use Rattle.guideline.specs.Guideline.{contaminantFits, allRanged}
+use Rattle.guideline.specs.Guideline.{allRanged}
 use Rattle.guideline.proofs.Steps.{accepted-inputs, sides}
 use Rattle.sums.specs.declared.SideRun.{SideRun}
 use Rattle.sums.specs.declared.State.{State}

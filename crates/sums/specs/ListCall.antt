@@ -11,9 +11,10 @@ use Rattle.outcome.specs.declared.Refusal.{Refusal}
 use Rattle.outcome.specs.declared.Refusal.the-variants.{Accepted, Length, Field, Factor, Order, Pathway, Range}
 use Rattle.inputs.specs.declared.Scenario.{Scenario}
 use Rattle.inputs.specs.declared.Contaminant.{Contaminant}
+use Rattle.inputs.specs.Rules.{scenarioFits, lacksFactor, contaminantFits}
 use Rattle.terms.specs.Formula.{none, pathwaysOf, TR, THI}
 use Rattle.terms.specs.Term.{look, termOf, inputsOf, valuesOf}
-use Rattle.guideline.specs.Guideline.{allRanged, sideDecimals, scenarioFits, lacksFactor, contaminantFits}
+use Rattle.guideline.specs.Guideline.{allRanged, sideDecimals}
 use Rattle.sums.specs.declared.Verdict.the-variants.{Unset}
 use Rattle.sums.specs.declared.SideSums.{SideSums}
 use Rattle.sums.specs.declared.SumsAnswer.{SumsAnswer}

@@ -16,11 +16,11 @@ use Rattle.inputs.specs.declared.Scenario.{Scenario}
 use Rattle.inputs.specs.declared.Contaminant.{Contaminant}
 use Rattle.inputs.specs.Inputs.{scenarioDecimals}
 use Rattle.inputs.specs.Valid.{allValid}
+use Rattle.inputs.specs.Rules.{scenarioFits, lacksFactor, contaminantFits}
 use Rattle.terms.specs.declared.numbers.Factors.{Factors}
 use Rattle.terms.specs.Stands.{Stands, FactorsFor}
 use Rattle.terms.specs.Prepared.{PreparedFor}
 use Rattle.terms.specs.Side.{OneOrTwo}
-use Rattle.guideline.specs.Guideline.{scenarioFits, lacksFactor, contaminantFits}
 use Rattle.sums.specs.declared.SideRun.{SideRun}
 use Rattle.sums.specs.declared.State.{State}
 use Rattle.sums.specs.declared.SideSums.{SideSums}

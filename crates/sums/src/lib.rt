@@ -1,11 +1,11 @@
 // Sums of risk and hazard over a list of contaminants, and the verdict of each side.
 use decimal::Decimal;
-use guideline::contaminant_fits;
-use guideline::lacks_factor;
-use guideline::scenario_fits;
 use inputs::Contaminant;
 use inputs::Scenario;
 use inputs::both;
+use inputs::contaminant_fits;
+use inputs::lacks_factor;
+use inputs::scenario_fits;
 use outcome::Refusal;
 use rounding::Biased;
 use rounding::Direction;

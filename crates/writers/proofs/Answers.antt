@@ -9,8 +9,8 @@ use Rattle.outcome.specs.declared.Refusal.{Refusal}
 use Rattle.outcome.specs.declared.Refusal.the-variants.{Accepted, Field, Factor, Room}
 use Rattle.words.specs.Bytes.{over}
 use Rattle.inputs.specs.declared.Contaminant.{Contaminant}
+use Rattle.inputs.specs.Rules.{lacksFactor}
 use Rattle.blocks.specs.declared.Header.{Header}
-use Rattle.blocks.specs.Rules.{factorsKnown}
 use Rattle.writers.specs.Blocks.{headerBlock, contaminantBlock}
 use Rattle.writers.specs.Answers.{headerFit, contaminantFit, headerAnswer, contaminantAnswer, leftBy, headerLeft, contaminantLeft}
 use Rattle.outcome.specs.Outcome.{numberOf}
@@ -33,11 +33,11 @@ module _ (out : List ℕ) (h : Header) where
   unfolding headerAnswer leftBy
   header-field n f = header-as Field out (simp (n, f)) refl
 
-  pub header-factor : ltb (length out) 512 ≡ false → headerFit h ≡ true → factorsKnown (h .scenario) ≡ false → (Factor ≡ headerAnswer out h) × (out ≡ headerLeft out h)
+  pub header-factor : ltb (length out) 512 ≡ false → headerFit h ≡ true → lacksFactor (h .scenario) ≡ true → (Factor ≡ headerAnswer out h) × (out ≡ headerLeft out h)
   unfolding headerAnswer leftBy
   header-factor n f k = header-as Factor out (simp (n, f, k)) refl
 
-  pub header-written : (l : List ℕ) → ltb (length out) 512 ≡ false → headerFit h ≡ true → factorsKnown (h .scenario) ≡ true → l ≡ over (headerBlock h) out
+  pub header-written : (l : List ℕ) → ltb (length out) 512 ≡ false → headerFit h ≡ true → lacksFactor (h .scenario) ≡ false → l ≡ over (headerBlock h) out
       → (Accepted ≡ headerAnswer out h) × (l ≡ headerLeft out h)
   unfolding headerAnswer leftBy
   header-written l n f k e = header-as Accepted l (simp (n, f, k)) e

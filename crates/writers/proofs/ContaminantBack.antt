@@ -18,11 +18,12 @@ use Rattle.decimal.specs.Decimal.{zeroOf}
 use Rattle.inputs.specs.declared.Contaminant.{Contaminant}
 use Rattle.inputs.specs.Inputs.{contaminantDecimals}
 use Rattle.inputs.specs.Valid.{allValid}
+use Rattle.inputs.specs.Rules.{oneOrTwo, contaminantFits}
 use Rattle.inputs.proofs.Tests.{and-split}
 use Rattle.fields.specs.Fields.{decimalsAt}
 use Rattle.fields.proofs.ReadBack.{all-fit}
 use Rattle.blocks.specs.declared.ContaminantRead.the-variants as C
-use Rattle.blocks.specs.Rules.{oneOrTwo, inFile, contaminantValid}
+use Rattle.blocks.specs.Rules.{inFile}
 use Rattle.blocks.specs.Blocks.{contaminantAt, contaminantUnused, soundAt, contaminantRead}
 use Rattle.blocks.proofs.Found.{passed}
 use Rattle.blocks.proofs.Rules.{in-file, one-or-two}
@@ -37,19 +38,17 @@ module _ (place previous : ℕ) (r : Contaminant) (fit : contaminantFit place r 
 
   placed-well : inFile place ≡ true
   unfolding contaminantFit
-  placed-well = and-split (inFile place) (contaminantValid r) fit .0
+  placed-well = and-split (inFile place) (contaminantFits r) fit .0
 
-  valid : contaminantValid r ≡ true
+  valid : contaminantFits r ≡ true
   unfolding contaminantFit
-  valid = and-split (inFile place) (contaminantValid r) fit .1
+  valid = and-split (inFile place) (contaminantFits r) fit .1
 
   class-good : oneOrTwo (r .class) ≡ true
-  unfolding contaminantValid
-  class-good = and-split (oneOrTwo (r .class)) (not (eqb (r .id) 0)) (and-split (oneOrTwo (r .class) && not (eqb (r .id) 0)) (allValid (contaminantDecimals r)) valid .0) .0
+  class-good = and-split (oneOrTwo (r .class)) (not (eqb (r .id) 0) && allValid (contaminantDecimals r)) valid .0
 
   decimals-good : allValid (contaminantDecimals r) ≡ true
-  unfolding contaminantValid
-  decimals-good = and-split (oneOrTwo (r .class) && not (eqb (r .id) 0)) (allValid (contaminantDecimals r)) valid .1
+  decimals-good = and-split (not (eqb (r .id) 0)) (allValid (contaminantDecimals r)) (and-split (oneOrTwo (r .class)) (not (eqb (r .id) 0) && allValid (contaminantDecimals r)) valid .1) .1
 
   read-decimals : decimalsAt cb 16 8 ≡ contaminantDecimals r
   unfolding contaminantBlock

@@ -1,7 +1,7 @@
 -- Reading what the writer of kind 1 wrote gives the same header, each decimal with the same m and the same e. Assumes nothing.
 use mathlib.Core.Path.{_≡_, refl, ap, ap₂, _∙_}
 use mathlib.Core.List.{List}
-use mathlib.Core.Bool.{Bool, true, _&&_, not}
+use mathlib.Core.Bool.{Bool, true, false, _&&_, not}
 use Prim.Native.Nat.{ℕ, _+_}
 use native.Mathlib.Omega.{arith}
 use lib.ListN.{length, getD, replicate}
@@ -18,12 +18,13 @@ use Rattle.decimal.specs.Decimal.{zeroOf}
 use Rattle.inputs.specs.declared.Scenario.{Scenario}
 use Rattle.inputs.specs.Inputs.{scenarioDecimals}
 use Rattle.inputs.specs.Valid.{allValid}
+use Rattle.inputs.specs.Rules.{oneOrTwo, scenarioFits, lacksFactor}
 use Rattle.inputs.proofs.Tests.{and-split}
 use Rattle.fields.specs.Fields.{decimalsAt}
 use Rattle.fields.proofs.ReadBack.{all-fit}
 use Rattle.blocks.specs.declared.Header.{Header}
 use Rattle.blocks.specs.declared.HeaderRead.the-variants as H
-use Rattle.blocks.specs.Rules.{oneOrTwo, inFile, headerValid, countOk, factorsKnown}
+use Rattle.blocks.specs.Rules.{inFile, countOk}
 use Rattle.blocks.specs.Blocks.{scenarioAt, headerAt, headerUnused, soundAt, headerRead}
 use Rattle.blocks.proofs.Found.{passed}
 use Rattle.blocks.proofs.Rules.{in-file, one-or-two}
@@ -32,7 +33,7 @@ use Rattle.writers.specs.Answers.{headerFit, headerAnswer, leftBy, heade
 use Rattle.writers.proofs.Answers.{refused}
 use Rattle.writers.proofs.ReadBack.{zeros-long, kind-back, first-back, second-back, decimals-back, unused-back, ending-back, block-length, sound-back}
 
-module _ (h : Header) (fit : headerFit h ≡ true) (known : factorsKnown (h .scenario) ≡ true) where
+module _ (h : Header) (fit : headerFit h ≡ true) (known : lacksFactor (h .scenario) ≡ false) where
   abbrev hb : List ℕ
   hb = headerBlock h
 
@@ -44,18 +45,16 @@ module _ (h : Header) (fit : headerFit h ≡ true) (known : factorsKnown (h .sce
 
   counted : inFile (h .count) ≡ true
   unfolding headerFit
-  counted = and-split (inFile (h .count)) (headerValid h) fit .0
+  counted = and-split (inFile (h .count)) (scenarioFits (h .scenario) (h .medium)) fit .0
 
-  valid : headerValid h ≡ true
+  valid : scenarioFits (h .scenario) (h .medium) ≡ true
   unfolding headerFit
-  valid = and-split (inFile (h .count)) (headerValid h) fit .1
+  valid = and-split (inFile (h .count)) (scenarioFits (h .scenario) (h .medium)) fit .1
 
   medium-good : oneOrTwo (h .medium) ≡ true
-  unfolding headerValid
   medium-good = and-split (oneOrTwo (h .medium)) (allValid ds) valid .0
 
   decimals-good : allValid ds ≡ true
-  unfolding headerValid
   decimals-good = and-split (oneOrTwo (h .medium)) (allValid ds) valid .1
 
   read-decimals : decimalsAt hb 16 12 ≡ ds
@@ -115,23 +114,27 @@ module _ (h : Header) (fit : headerFit h ≡ true) (known : factorsKnown (h .sce
   unfolding countOk
   count-good = ap (λ (n : ℕ). inFile n && eqb (n + 1) (h .count + 1)) read-count ∙ simp (counted, eq-eqb (h .count + 1) (h .count + 1) refl)
 
-  factors-good : factorsKnown (scenarioAt hb 16) ≡ true
-  factors-good = ap factorsKnown read-scenario ∙ known
+  factors-good : lacksFactor (scenarioAt hb 16) ≡ false
+  factors-good = ap lacksFactor read-scenario ∙ known
+
+  fields-good : scenarioFits (scenarioAt hb 16) (wordAt hb 8) && headerUnused hb 8 ≡ true
+  unfolding headerAt
+  fields-good = ap₂ (λ (x : Header) (y : Bool). scenarioFits (x .scenario) (x .medium) && y) read-header unused ∙ ap (λ (x : Bool). x && true) valid
 
   pub header-back : headerRead hb (h .count + 1) ≡ H.Found h
   unfolding headerRead
-  header-back = simp (eq-eqb (length hb) 512 long, sound, eq-eqb (wordAt hb 0) 1 kind, count-good, factors-good, read-header, valid, unused)
+  header-back = simp (eq-eqb (length hb) 512 long, sound, eq-eqb (wordAt hb 0) 1 kind, fields-good, count-good, factors-good, read-header)
 
   pub header-back-over : (d : List ℕ) → headerRead (partOf (over hb d) 0 512) (h .count + 1) ≡ H.Found h
   header-back-over d = ap (λ (l : List ℕ). headerRead l (h .count + 1)) (part-over hb d 512 long) ∙ header-back
 
 -- ---- the same of what the call leaves, where it accepts
-accepted-fits : (out : List ℕ) (h : Header) → headerAnswer out h ≡ Accepted → (headerFit h ≡ true) × (factorsKnown (h .scenario) ≡ true)
+accepted-fits : (out : List ℕ) (h : Header) → headerAnswer out h ≡ Accepted → (headerFit h ≡ true) × (lacksFactor (h .scenario) ≡ false)
 unfolding headerAnswer
 accepted-fits out h e =
     let e₁ = passed (ltb (length out) 512) Room _ Accepted (refused Room (λ z. omega arith)) e .1 in
     let e₂ = passed (not (headerFit h)) Field _ Accepted (refused Field (λ z. omega arith)) e₁ in
-    (not-false _ (e₂ .0), not-false _ (passed (not (factorsKnown (h .scenario))) Factor Accepted Accepted (refused Factor (λ z. omega arith)) (e₂ .1) .0))
+    (not-false _ (e₂ .0), passed (lacksFactor (h .scenario)) Factor Accepted Accepted (refused Factor (λ z. omega arith)) (e₂ .1) .0)
 
 pub header-call-back : (out : List ℕ) (h : Header) → headerAnswer out h ≡ Accepted → headerRead (partOf (headerLeft out h) 0 512) (h .count + 1) ≡ H.Found h
 unfolding headerLeft leftBy

@@ -9,20 +9,21 @@ use Rattle.outcome.specs.declared.Refusal.the-variants.{Accepted, Field, Factor
 use Rattle.outcome.specs.Outcome.{numberOf}
 use Rattle.words.specs.Bytes.{over}
 use Rattle.inputs.specs.declared.Contaminant.{Contaminant}
+use Rattle.inputs.specs.Rules.{scenarioFits, contaminantFits, lacksFactor}
 use Rattle.blocks.specs.declared.Header.{Header}
-use Rattle.blocks.specs.Rules.{inFile, headerValid, contaminantValid, factorsKnown}
+use Rattle.blocks.specs.Rules.{inFile}
 use Rattle.writers.specs.Blocks.{headerBlock, contaminantBlock}
 
 -- the count is 1 to 120, the medium and the decimals keep their rule
 unfoldable pub headerFit : Header → Bool
-headerFit h = inFile (h .count) && headerValid h
+headerFit h = inFile (h .count) && scenarioFits (h .scenario) (h .medium)
 
 -- the place is 1 to 120, the class, the id and the decimals keep their rule
 unfoldable pub contaminantFit : ℕ → Contaminant → Bool
-contaminantFit place r = inFile place && contaminantValid r
+contaminantFit place r = inFile place && contaminantFits r
 
 unfoldable pub headerAnswer : List ℕ → Header → Refusal
-headerAnswer out h = cond (ltb (length out) 512) Room (cond (not (headerFit h)) Field (cond (not (factorsKnown (h .scenario))) Factor Accepted))
+headerAnswer out h = cond (ltb (length out) 512) Room (cond (not (headerFit h)) Field (cond (lacksFactor (h .scenario)) Factor Accepted))
 
 unfoldable pub contaminantAnswer : List ℕ → ℕ → Contaminant → Refusal
 contaminantAnswer out place r = cond (ltb (length out) 512) Room (cond (not (contaminantFit place r)) Field Accepted)

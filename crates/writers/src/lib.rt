@@ -112,7 +112,8 @@ pub fn put_summary(out: &mut [u8], t: Summary)
 fn header_fit(h: Header) -> bool
     ensures { λ b. ⌜ b ≡ headerFit h ⌝ }
 {
-    let valid = blocks::header_valid(h);
+    let s = h.scenario;
+    let valid = inputs::scenario_fits(s, h.medium);
     inputs::both(blocks::in_file(h.count), valid)
 }
 
@@ -120,7 +121,7 @@ fn header_fit(h: Header) -> bool
 fn contaminant_fit(place: u32, r: Contaminant) -> bool
     ensures { λ b. ⌜ b ≡ contaminantFit place r ⌝ }
 {
-    inputs::both(blocks::in_file(place), blocks::contaminant_valid(r))
+    inputs::both(blocks::in_file(place), inputs::contaminant_fits(r))
 }
 
 // Writes a header's block, or refuses it and writes nothing.
@@ -134,7 +135,7 @@ pub fn write_header(out: &mut [u8], h: Header) -> Refusal
         return Refusal::Field;
     }
     let s = h.scenario;
-    if !blocks::factors_known(s) {
+    if inputs::lacks_factor(s) {
         return Refusal::Factor;
     }
     put_header(out, h);

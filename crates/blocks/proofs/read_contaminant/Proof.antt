@@ -88,8 +88,8 @@ part-part-end c =
 get-contaminant-requires : tie.Need-get-contaminant-requires
 get-contaminant-requires c κs = search needs
 
-contaminant-valid-requires : tie.Need-contaminant-valid-requires
-contaminant-valid-requires c κs = search needs
+contaminant-fits-requires : tie.Need-contaminant-fits-requires
+contaminant-fits-requires c κs = search needs
 
 contaminant-unused-requires : tie.Need-contaminant-unused-requires
 contaminant-unused-requires c κs = search needs
@@ -107,7 +107,7 @@ returns-4 c =
     let p : Passed b (c .before .before .before .before .before .before .before .before .before .before .before .before .before .before .args .place) 2 = record { long = long; sound = sound; first = kind-here s at 2 _ true (c .before .before .before .before .before .before .before .word .ensures) (eq-eqb _ _ (c .before .before .before .before .before .before .if3 .left)) } in
     let r = c .before .before .before .before .get-contaminant .result in
     let is = contaminant-here s at r (c .before .before .before .before .get-contaminant .ensures) in
-    let good = contaminant-fields-here s at r _ _ _ (c .before .both .ensures) (c .before .before .before .contaminant-valid .ensures) (c .before .before .contaminant-unused .ensures) in
+    let good = contaminant-fields-here s at r _ _ _ (c .before .both .ensures) (c .before .before .before .contaminant-fits .ensures) (c .before .before .contaminant-unused .ensures) in
     contaminant-field b (c .before .before .before .before .before .before .before .before .before .before .before .before .before .before .args .place) (c .before .before .before .before .before .before .before .before .before .before .before .before .before .before .args .previous) p r is (sym good ∙ not-true _ (c .if4 .taken))
 
 returns-5 : tie.Need-returns-5
@@ -120,7 +120,7 @@ returns-5 c =
     let p : Passed b (c .before .before .before .before .before .before .before .before .before .before .before .before .before .before .before .before .args .place) 2 = record { long = long; sound = sound; first = kind-here s at 2 _ true (c .before .before .before .before .before .before .before .before .before .word .ensures) (eq-eqb _ _ (c .before .before .before .before .before .before .before .before .if3 .left)) } in
     let r = c .before .before .before .before .before .before .get-contaminant .result in
     let is = contaminant-here s at r (c .before .before .before .before .before .before .get-contaminant .ensures) in
-    let good = contaminant-fields-here s at r _ _ _ (c .before .before .before .both .ensures) (c .before .before .before .before .before .contaminant-valid .ensures) (c .before .before .before .before .contaminant-unused .ensures) in
+    let good = contaminant-fields-here s at r _ _ _ (c .before .before .before .both .ensures) (c .before .before .before .before .before .contaminant-fits .ensures) (c .before .before .before .before .contaminant-unused .ensures) in
     contaminant-order b (c .before .before .before .before .before .before .before .before .before .before .before .before .before .before .before .before .args .place) (c .before .before .before .before .before .before .before .before .before .before .before .before .before .before .before .before .args .previous) p r is (sym good ∙ not-false _ (c .before .before .if4 .left)) (le-leb _ _ (c .if5 .taken))
 
 returns-6 : tie.Need-returns-6
@@ -133,7 +133,7 @@ returns-6 c =
     let p : Passed b (c .before .before .before .before .before .before .before .before .before .before .before .before .before .before .before .before .args .place) 2 = record { long = long; sound = sound; first = kind-here s at 2 _ true (c .before .before .before .before .before .before .before .before .before .word .ensures) (eq-eqb _ _ (c .before .before .before .before .before .before .before .before .if3 .left)) } in
     let r = c .before .before .before .before .before .before .get-contaminant .result in
     let is = contaminant-here s at r (c .before .before .before .before .before .before .get-contaminant .ensures) in
-    let good = contaminant-fields-here s at r _ _ _ (c .before .before .before .both .ensures) (c .before .before .before .before .before .contaminant-valid .ensures) (c .before .before .before .before .contaminant-unused .ensures) in
+    let good = contaminant-fields-here s at r _ _ _ (c .before .before .before .both .ensures) (c .before .before .before .before .before .contaminant-fits .ensures) (c .before .before .before .before .contaminant-unused .ensures) in
     contaminant-found b (c .before .before .before .before .before .before .before .before .before .before .before .before .before .before .before .before .args .place) (c .before .before .before .before .before .before .before .before .before .before .before .before .before .before .before .before .args .previous) p r is (sym good ∙ not-false _ (c .before .before .if4 .left)) (lt-leb _ _ (c .if5 .left))
 
 pub read-contaminant-spec : {M : Type 1} → statement M
@@ -156,7 +156,7 @@ read-contaminant-spec =
     part-part-start
     part-part-end
     get-contaminant-requires
-    contaminant-valid-requires
+    contaminant-fits-requires
     contaminant-unused-requires
     both-requires
     returns-4

@@ -70,8 +70,8 @@ part-part-end c =
 get-header-requires : tie.Need-get-header-requires
 get-header-requires c κs = search needs
 
-header-valid-requires : tie.Need-header-valid-requires
-header-valid-requires c κs = search needs
+scenario-fits-requires : tie.Need-scenario-fits-requires
+scenario-fits-requires c κs = search needs
 
 header-unused-requires : tie.Need-header-unused-requires
 header-unused-requires c κs = search needs
@@ -81,33 +81,33 @@ both-requires c κs = search needs
 
 returns-4 : tie.Need-returns-4
 returns-4 c =
-    let s = c .before .before .before .before .before .before .before .before .before .before .before .before .before .before .args .site .now in
+    let s = c .before .before .before .before .before .before .before .before .before .before .before .before .before .before .before .args .site .now in
     let b = partOf s 0 512 in
-    let long : eqb (length b) 512 ≡ true = sym (c .before .before .before .before .before .before .before .before .before .before .before .before .has-block .ensures) ∙ not-false _ (c .before .before .before .before .before .before .before .before .before .before .before .if1 .left) in
-    let sound : soundAt b 0 ≡ true = sound-here s 0 0 _ (c .before .before .before .before .before .before .before .before .before .sound .ensures) ∙ not-false _ (c .before .before .before .before .before .before .before .before .if2 .left) in
-    let p : Passed b 0 1 = record { long = long; sound = sound; first = kind-here s 0 1 _ true (c .before .before .before .before .before .before .before .word .ensures) (eq-eqb _ _ (c .before .before .before .before .before .before .if3 .left)) } in
-    let h = c .before .before .before .before .get-header .result in
-    let is = header-here s h (c .before .before .before .before .get-header .ensures) in
-    let good = header-fields-here s h _ _ _ (c .before .both .ensures) (c .before .before .before .header-valid .ensures) (c .before .before .header-unused .ensures) in
-    header-field b (c .before .before .before .before .before .before .before .before .before .before .before .before .before .before .args .blocks) p h is (sym good ∙ not-true _ (c .if4 .taken))
+    let long : eqb (length b) 512 ≡ true = sym (c .before .before .before .before .before .before .before .before .before .before .before .before .before .has-block .ensures) ∙ not-false _ (c .before .before .before .before .before .before .before .before .before .before .before .before .if1 .left) in
+    let sound : soundAt b 0 ≡ true = sound-here s 0 0 _ (c .before .before .before .before .before .before .before .before .before .before .sound .ensures) ∙ not-false _ (c .before .before .before .before .before .before .before .before .before .if2 .left) in
+    let p : Passed b 0 1 = record { long = long; sound = sound; first = kind-here s 0 1 _ true (c .before .before .before .before .before .before .before .before .word .ensures) (eq-eqb _ _ (c .before .before .before .before .before .before .before .if3 .left)) } in
+    let h = c .before .before .before .before .before .get-header .result in
+    let is = header-here s h (c .before .before .before .before .before .get-header .ensures) in
+    let good = header-fields-here s h _ _ _ (c .before .both .ensures) (c .before .before .before .scenario-fits .ensures) (c .before .before .header-unused .ensures) in
+    header-field b (c .before .before .before .before .before .before .before .before .before .before .before .before .before .before .before .args .blocks) p h is (sym good ∙ not-true _ (c .if4 .taken))
 
 count-ok-requires : tie.Need-count-ok-requires
 count-ok-requires c κs = search needs
 
 returns-5 : tie.Need-returns-5
 returns-5 c =
-    let s = c .before .before .before .before .before .before .before .before .before .before .before .before .before .before .before .before .args .site .now in
+    let s = c .before .before .before .before .before .before .before .before .before .before .before .before .before .before .before .before .before .args .site .now in
     let b = partOf s 0 512 in
-    let long : eqb (length b) 512 ≡ true = sym (c .before .before .before .before .before .before .before .before .before .before .before .before .before .before .has-block .ensures) ∙ not-false _ (c .before .before .before .before .before .before .before .before .before .before .before .before .before .if1 .left) in
-    let sound : soundAt b 0 ≡ true = sound-here s 0 0 _ (c .before .before .before .before .before .before .before .before .before .before .before .sound .ensures) ∙ not-false _ (c .before .before .before .before .before .before .before .before .before .before .if2 .left) in
-    let p : Passed b 0 1 = record { long = long; sound = sound; first = kind-here s 0 1 _ true (c .before .before .before .before .before .before .before .before .before .word .ensures) (eq-eqb _ _ (c .before .before .before .before .before .before .before .before .if3 .left)) } in
-    let h = c .before .before .before .before .before .before .get-header .result in
-    let is = header-here s h (c .before .before .before .before .before .before .get-header .ensures) in
-    let good = header-fields-here s h _ _ _ (c .before .before .before .both .ensures) (c .before .before .before .before .before .header-valid .ensures) (c .before .before .before .before .header-unused .ensures) in
-    header-count b (c .before .before .before .before .before .before .before .before .before .before .before .before .before .before .before .before .args .blocks) p h is (sym good ∙ not-false _ (c .before .before .if4 .left)) (sym (c .before .count-ok .ensures) ∙ not-true _ (c .if5 .taken))
+    let long : eqb (length b) 512 ≡ true = sym (c .before .before .before .before .before .before .before .before .before .before .before .before .before .before .before .has-block .ensures) ∙ not-false _ (c .before .before .before .before .before .before .before .before .before .before .before .before .before .before .if1 .left) in
+    let sound : soundAt b 0 ≡ true = sound-here s 0 0 _ (c .before .before .before .before .before .before .before .before .before .before .before .before .sound .ensures) ∙ not-false _ (c .before .before .before .before .before .before .before .before .before .before .before .if2 .left) in
+    let p : Passed b 0 1 = record { long = long; sound = sound; first = kind-here s 0 1 _ true (c .before .before .before .before .before .before .before .before .before .before .word .ensures) (eq-eqb _ _ (c .before .before .before .before .before .before .before .before .before .if3 .left)) } in
+    let h = c .before .before .before .before .before .before .before .get-header .result in
+    let is = header-here s h (c .before .before .before .before .before .before .before .get-header .ensures) in
+    let good = header-fields-here s h _ _ _ (c .before .before .before .both .ensures) (c .before .before .before .before .before .scenario-fits .ensures) (c .before .before .before .before .header-unused .ensures) in
+    header-count b (c .before .before .before .before .before .before .before .before .before .before .before .before .before .before .before .before .before .args .blocks) p h is (sym good ∙ not-false _ (c .before .before .if4 .left)) (sym (c .before .count-ok .ensures) ∙ not-true _ (c .if5 .taken))
 
-factors-known-requires : tie.Need-factors-known-requires
-factors-known-requires c κs = search needs
+lacks-factor-requires : tie.Need-lacks-factor-requires
+lacks-factor-requires c κs = search needs
 
 returns-6 : tie.Need-returns-6
 returns-6 c =
@@ -118,8 +118,8 @@ returns-6 c =
     let p : Passed b 0 1 = record { long = long; sound = sound; first = kind-here s 0 1 _ true (c .before .before .before .before .before .before .before .before .before .before .before .before .word .ensures) (eq-eqb _ _ (c .before .before .before .before .before .before .before .before .before .before .before .if3 .left)) } in
     let h = c .before .before .before .before .before .before .before .before .before .get-header .result in
     let is = header-here s h (c .before .before .before .before .before .before .before .before .before .get-header .ensures) in
-    let good = header-fields-here s h _ _ _ (c .before .before .before .before .before .before .both .ensures) (c .before .before .before .before .before .before .before .before .header-valid .ensures) (c .before .before .before .before .before .before .before .header-unused .ensures) in
-    header-factor b (c .before .before .before .before .before .before .before .before .before .before .before .before .before .before .before .before .before .before .before .args .blocks) p h is (sym good ∙ not-false _ (c .before .before .before .before .before .if4 .left)) (sym (c .before .before .before .before .count-ok .ensures) ∙ not-false _ (c .before .before .before .if5 .left)) (sym (c .before .factors-known .ensures) ∙ not-true _ (c .if6 .taken))
+    let good = header-fields-here s h _ _ _ (c .before .before .before .before .before .both .ensures) (c .before .before .before .before .before .before .before .scenario-fits .ensures) (c .before .before .before .before .before .before .header-unused .ensures) in
+    header-factor b (c .before .before .before .before .before .before .before .before .before .before .before .before .before .before .before .before .before .before .before .args .blocks) p h is (sym good ∙ not-false _ (c .before .before .before .before .if4 .left)) (sym (c .before .before .before .count-ok .ensures) ∙ not-false _ (c .before .before .if5 .left)) (sym (c .before .lacks-factor .ensures) ∙ c .if6 .taken)
 
 returns-7 : tie.Need-returns-7
 returns-7 c =
@@ -130,8 +130,8 @@ returns-7 c =
     let p : Passed b 0 1 = record { long = long; sound = sound; first = kind-here s 0 1 _ true (c .before .before .before .before .before .before .before .before .before .before .before .before .word .ensures) (eq-eqb _ _ (c .before .before .before .before .before .before .before .before .before .before .before .if3 .left)) } in
     let h = c .before .before .before .before .before .before .before .before .before .get-header .result in
     let is = header-here s h (c .before .before .before .before .before .before .before .before .before .get-header .ensures) in
-    let good = header-fields-here s h _ _ _ (c .before .before .before .before .before .before .both .ensures) (c .before .before .before .before .before .before .before .before .header-valid .ensures) (c .before .before .before .before .before .before .before .header-unused .ensures) in
-    header-found b (c .before .before .before .before .before .before .before .before .before .before .before .before .before .before .before .before .before .before .before .args .blocks) p h is (sym good ∙ not-false _ (c .before .before .before .before .before .if4 .left)) (sym (c .before .before .before .before .count-ok .ensures) ∙ not-false _ (c .before .before .before .if5 .left)) (sym (c .before .factors-known .ensures) ∙ not-false _ (c .if6 .left))
+    let good = header-fields-here s h _ _ _ (c .before .before .before .before .before .both .ensures) (c .before .before .before .before .before .before .before .scenario-fits .ensures) (c .before .before .before .before .before .before .header-unused .ensures) in
+    header-found b (c .before .before .before .before .before .before .before .before .before .before .before .before .before .before .before .before .before .before .before .args .blocks) p h is (sym good ∙ not-false _ (c .before .before .before .before .if4 .left)) (sym (c .before .before .before .count-ok .ensures) ∙ not-false _ (c .before .before .if5 .left)) (sym (c .before .lacks-factor .ensures) ∙ c .if6 .left)
 
 pub read-header-spec : {M : Type 1} → statement M
 read-header-spec =
@@ -150,12 +150,12 @@ read-header-spec =
     part-part-start
     part-part-end
     get-header-requires
-    header-valid-requires
+    scenario-fits-requires
     header-unused-requires
     both-requires
     returns-4
     count-ok-requires
     returns-5
-    factors-known-requires
+    lacks-factor-requires
     returns-6
     returns-7)

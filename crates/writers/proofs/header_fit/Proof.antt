@@ -4,8 +4,8 @@ use borrow.Author.Needs.{needs}
 use Rattle.writers.proofs.header_fit.Statement.{statement}
 use Rattle.writers.proofs.header_fit.Tie as tie
 
-header-valid-requires : tie.Need-header-valid-requires
-header-valid-requires c κs = search needs
+scenario-fits-requires : tie.Need-scenario-fits-requires
+scenario-fits-requires c κs = search needs
 
 in-file-requires : tie.Need-in-file-requires
 in-file-requires c κs = search needs
@@ -15,7 +15,7 @@ both-requires c κs = search needs
 
 returns : tie.Need-returns
 unfolding headerFit
-returns c = rw (c .both .ensures, c .before .in-file .ensures, c .before .before .header-valid .ensures)
+returns c = rw (c .both .ensures, c .before .in-file .ensures, c .before .before .scenario-fits .ensures)
 
 pub header-fit-spec : {M : Type 1} → statement M
-header-fit-spec = tie.close (tie.spec header-valid-requires in-file-requires both-requires returns)
+header-fit-spec = tie.close (tie.spec scenario-fits-requires in-file-requires both-requires returns)

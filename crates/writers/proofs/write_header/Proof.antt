@@ -18,13 +18,13 @@ returns-2 c =
     header-field (c .before .before .before .before .args .out .now) (c .before .before .before .before .args .h) (le-ltb (length (c .before .before .before .before .args .out .now)) 512 (c .before .before .if1 .left))
     (sym (c .before .header-fit .ensures) ∙ not-true _ (c .if2 .taken))
 
-factors-known-requires : tie.Need-factors-known-requires
-factors-known-requires c κs = search needs
+lacks-factor-requires : tie.Need-lacks-factor-requires
+lacks-factor-requires c κs = search needs
 
 returns-3 : tie.Need-returns-3
 returns-3 c =
     header-factor (c .before .before .before .before .before .before .before .args .out .now) (c .before .before .before .before .before .before .before .args .h) (le-ltb (length (c .before .before .before .before .before .before .before .args .out .now)) 512 (c .before .before .before .before .before .if1 .left))
-    (sym (c .before .before .before .before .header-fit .ensures) ∙ not-false _ (c .before .before .before .if2 .left)) (sym (c .before .factors-known .ensures) ∙ not-true _ (c .if3 .taken))
+    (sym (c .before .before .before .before .header-fit .ensures) ∙ not-false _ (c .before .before .before .if2 .left)) (sym (c .before .lacks-factor .ensures) ∙ c .if3 .taken)
 
 put-header-requires : tie.Need-put-header-requires
 put-header-requires c κs = search needs
@@ -35,7 +35,7 @@ same-length c = search needs
 returns-4 : tie.Need-returns-4
 returns-4 c =
     header-written (c .before .before .before .before .before .before .before .before .before .before .before .args .out .now) (c .before .before .before .before .before .before .before .before .before .before .before .args .h) (c .before .before .put-header .last .0) (le-ltb (length (c .before .before .before .before .before .before .before .before .before .before .before .args .out .now)) 512 (c .before .before .before .before .before .before .before .before .before .if1 .left))
-    (sym (c .before .before .before .before .before .before .before .before .header-fit .ensures) ∙ not-false _ (c .before .before .before .before .before .before .before .if2 .left)) (sym (c .before .before .before .before .before .factors-known .ensures) ∙ not-false _ (c .before .before .before .before .if3 .left)) (c .before .before .put-header .ensures)
+    (sym (c .before .before .before .before .before .before .before .before .header-fit .ensures) ∙ not-false _ (c .before .before .before .before .before .before .before .if2 .left)) (sym (c .before .before .before .before .before .lacks-factor .ensures) ∙ c .before .before .before .before .if3 .left) (c .before .before .put-header .ensures)
 
 pub write-header-spec : {M : Type 1} → statement M
 write-header-spec =
@@ -44,7 +44,7 @@ write-header-spec =
     returns
     header-fit-requires
     returns-2
-    factors-known-requires
+    lacks-factor-requires
     returns-3
     put-header-requires
     same-length

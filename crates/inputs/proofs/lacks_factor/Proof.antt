@@ -1,7 +1,7 @@
--- `guideline::lacks_factor` meets its contract. Assumes nothing.
+-- `inputs::lacks_factor` meets its contract. Assumes nothing.
 use borrow.Author.Needs.{needs}
-use Rattle.guideline.proofs.lacks_factor.Statement.{statement}
-use Rattle.guideline.proofs.lacks_factor.Tie as tie
+use Rattle.inputs.proofs.lacks_factor.Statement.{statement}
+use Rattle.inputs.proofs.lacks_factor.Tie as tie
 
 both-requires : tie.Need-both-requires
 both-requires c κs = search needs

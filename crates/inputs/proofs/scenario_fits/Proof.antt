@@ -1,7 +1,7 @@
--- `guideline::scenario_fits` meets its contract. Assumes nothing.
+-- `inputs::scenario_fits` meets its contract. Assumes nothing.
 use borrow.Author.Needs.{needs}
-use Rattle.guideline.proofs.scenario_fits.Statement.{statement}
-use Rattle.guideline.proofs.scenario_fits.Tie as tie
+use Rattle.inputs.proofs.scenario_fits.Statement.{statement}
+use Rattle.inputs.proofs.scenario_fits.Tie as tie
 
 one-or-two-requires : tie.Need-one-or-two-requires
 one-or-two-requires c κs = search needs

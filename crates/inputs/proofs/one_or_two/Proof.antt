@@ -1,7 +1,7 @@
--- `guideline::one_or_two` meets its contract. Assumes nothing.
+-- `inputs::one_or_two` meets its contract. Assumes nothing.
 use borrow.Author.Tests.{eq-eqb, ne-eqb}
-use Rattle.guideline.proofs.one_or_two.Statement.{statement}
-use Rattle.guideline.proofs.one_or_two.Tie as tie
+use Rattle.inputs.proofs.one_or_two.Statement.{statement}
+use Rattle.inputs.proofs.one_or_two.Tie as tie
 
 returns : tie.Need-returns
 returns c = rw (eq-eqb (c .before .args .n) 1 (c .if1 .taken))

@@ -1,0 +1,24 @@
+-- The rules of paper 01 that a scenario and a contaminant have to keep, wherever they come from.
+use mathlib.Core.Bool.{Bool, not, _&&_, _||_}
+use Prim.Native.Nat.{ℕ}
+use lib.Dec.{eqb}
+use Rattle.inputs.specs.declared.Scenario.{Scenario}
+use Rattle.inputs.specs.declared.Contaminant.{Contaminant}
+use Rattle.inputs.specs.Inputs.{scenarioDecimals, contaminantDecimals}
+use Rattle.inputs.specs.Valid.{allValid}
+
+-- 4: a decimal or the medium breaks its rule
+abbrev pub oneOrTwo : ℕ → Bool
+oneOrTwo n = eqb n 1 || eqb n 2
+
+abbrev pub scenarioFits : Scenario → ℕ → Bool
+scenarioFits s medium = oneOrTwo medium && allValid (scenarioDecimals s)
+
+-- 6: EF, ED, BW, AT, TR or THI zero
+abbrev pub lacksFactor : Scenario → Bool
+lacksFactor s =
+    not (not (eqb (s .ef .m) 0) && (not (eqb (s .ed .m) 0) && (not (eqb (s .bw .m) 0) && (not (eqb (s .at .m) 0) && (not (eqb (s .tr .m) 0) && not (eqb (s .thi .m) 0))))))
+
+-- 4: a decimal, the class or the id breaks its rule
+abbrev pub contaminantFits : Contaminant → Bool
+contaminantFits r = oneOrTwo (r .class) && (not (eqb (r .id) 0) && allValid (contaminantDecimals r))
