@@ -4,7 +4,7 @@ use inputs::Scenario;
 use outcome::Refusal;
 ghost use mathlib.Core.Bool.{_&&_};
 ghost use mathlib.Core.Path.{_≡_};
-ghost use Prim.Native.Nat.{_+_, _≤_};
+ghost use Prim.Native.Nat.{_≤_};
 ghost use lib.Dec.{eqb};
 ghost use lib.ListN.{length};
 ghost use Rattle.words.specs.Words.{partOf};
@@ -195,14 +195,4 @@ pub fn read_contaminant(site: &[u8], at: usize, place: u32, previous: u32) -> Co
         return ContaminantRead::Refused(Refusal::Order);
     }
     ContaminantRead::Found(r)
-}
-
-// What the contaminant block at `at` holds, whether or not it keeps its rules.
-pub fn contaminant_at(site: &[u8], at: usize) -> Contaminant
-    requires { ⌜ at + 512 ≤ length (now site) ⌝ }
-    ensures { λ r. ⌜ r ≡ contaminantAt (partOf (now (site .entry)) at 512) 8 ⌝ }
-{
-    let from = at + 4;
-    let to = at + 508;
-    get_contaminant(&site[from..to])
 }

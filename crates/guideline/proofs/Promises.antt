@@ -81,7 +81,7 @@ module _ (s : Scenario) (medium : ℕ) (r : Contaminant) (a : Accepted s medium 
   qs = exactValues (inputsOf s r)
 
   reps : Represents Up vs qs
-  reps = values-of s medium r a
+  reps = values-of Up s medium r a
 
   abbrev pathways : ℕ → List Formula
   pathways side = pathwaysOf medium (r .class) side
@@ -93,10 +93,10 @@ module _ (s : Scenario) (medium : ℕ) (r : Contaminant) (a : Accepted s medium 
   term-there side n = term-present Up vs qs reps {K = 15} {W = 600} (lit≤ tt) (getD (pathways side) n noFormula) (sound-at (table-sound medium (r .class) side) (none-sound 15 600 (lit≤ tt) (lit≤ tt)) n)
 
   total-fairly : (side : ℕ) → side < 2 → Fair Up 18 603 (totalOf vs Up (pathways side)) (exactTotal qs (pathways side))
-  total-fairly side h = total-bounds vs qs reps (pathways side) (table-sound medium (r .class) side) (three-pathways medium (r .class) side (a .media) (a .class) h)
+  total-fairly side h = total-bounds Up vs qs reps (pathways side) (table-sound medium (r .class) side) (three-pathways medium (r .class) side (a .media) (a .class) h)
 
   total-there : (side : ℕ) → side < 2 → not (eqb (exactTotal qs (pathways side) .top) 0) ≡ anyPresent qs (pathways side)
-  total-there side h = sym (ap not (fair-zero (total-fairly side h))) ∙ present-total vs qs reps (pathways side) (table-sound medium (r .class) side) (three-pathways medium (r .class) side (a .media) (a .class) h)
+  total-there side h = sym (ap not (fair-zero (total-fairly side h))) ∙ present-total Up vs qs reps (pathways side) (table-sound medium (r .class) side) (three-pathways medium (r .class) side (a .media) (a .class) h)
 
   -- the targets
   given-some : (d : Decimal) → eqb (d .m) 0 ≡ false → eqb (given d .top) 0 ≡ false

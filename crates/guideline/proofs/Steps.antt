@@ -51,8 +51,8 @@ constants-valid = refl
 pub inputs-valid : (s : Scenario) (r : Contaminant) → allValid (scenarioDecimals s) ≡ true → allValid (contaminantDecimals r) ≡ true → allValid (inputsOf s r) ≡ true
 inputs-valid s r h k = valid-append constants (scenarioDecimals s ++ contaminantDecimals r) constants-valid (valid-append (scenarioDecimals s) (contaminantDecimals r) h k)
 
-pub values-of : (s : Scenario) (medium : ℕ) (r : Contaminant) → Accepted s medium r → Represents Up (valuesOf Up (inputsOf s r)) (exactValues (inputsOf s r))
-values-of s medium r a = values-stand Up (inputsOf s r) (inputs-valid s r (a .scenario) (a .contaminant))
+pub values-of : (dir : Direction) (s : Scenario) (medium : ℕ) (r : Contaminant) → Accepted s medium r → Represents dir (valuesOf dir (inputsOf s r)) (exactValues (inputsOf s r))
+values-of dir s medium r a = values-stand dir (inputsOf s r) (inputs-valid s r (a .scenario) (a .contaminant))
 
 -- ---- the terms over the values of the definitions
 pub sides : {dir : Direction} {f : Factors} {t : Toxicity} {fs : List Formula} {k : Side} {vs : List Decimal} → numberValues dir f t ≡ vs → SideFor dir f t fs k → SideStands dir vs fs k
@@ -112,10 +112,10 @@ module _ {s : Scenario} {medium : ℕ} {r : Contaminant} {f : Factors} {p : Prep
   hazard-column = column-stands vs (pathwaysOf medium (r .class) 1) (k .hazard) hazard-three (hazard-terms (h .terms)) (f .thi) (look vs THI) y hazard-target (h .hazard)
 
   any-risk : not (eqb (x .sum .m) 0) ≡ anyPathway vs (pathwaysOf medium (r .class) 0)
-  any-risk = ap not (stands-zero (risk-column .sum)) ∙ any-total vs _ (values-of s medium r a) (pathwaysOf medium (r .class) 0) (table-sound medium (r .class) 0) risk-three
+  any-risk = ap not (stands-zero (risk-column .sum)) ∙ any-total vs _ (values-of Up s medium r a) (pathwaysOf medium (r .class) 0) (table-sound medium (r .class) 0) risk-three
 
   any-hazard : not (eqb (y .sum .m) 0) ≡ anyPathway vs (pathwaysOf medium (r .class) 1)
-  any-hazard = ap not (stands-zero (hazard-column .sum)) ∙ any-total vs _ (values-of s medium r a) (pathwaysOf medium (r .class) 1) (table-sound medium (r .class) 1) hazard-three
+  any-hazard = ap not (stands-zero (hazard-column .sum)) ∙ any-total vs _ (values-of Up s medium r a) (pathwaysOf medium (r .class) 1) (table-sound medium (r .class) 1) hazard-three
 
   -- the three ways out
   pub none-out : eqb (x .sum .m) 0 && eqb (y .sum .m) 0 ≡ true → workedOut vs (pathwaysOf medium (r .class) 0) (pathwaysOf medium (r .class) 1) ≡ refused Pathway 1

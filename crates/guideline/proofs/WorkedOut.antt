@@ -6,6 +6,7 @@ use Prim.Native.Nat.{ℕ, suc, _+_, _≤_, _<_}
 use native.Mathlib.Omega.{arith}
 use lib.Dec.{eqb, lit<, lit≤}
 use lib.ListN.{length, length-map}
+use Rattle.rounding.specs.declared.Direction.{Direction}
 use Rattle.rounding.specs.declared.Direction.the-variants.{Down, Up}
 use Rattle.decimal.specs.declared.Decimal.{Decimal}
 use Rattle.decimal.specs.Fraction.{Fraction}
@@ -20,26 +21,26 @@ use Rattle.guideline.specs.declared.SideGuidelines.{SideGuidelines}
 use Rattle.guideline.specs.declared.GuidelineAnswer.{GuidelineAnswer}
 use Rattle.guideline.specs.Guideline.{sideOf, sideDecimals, allRanged, anyPathway, refused, accepted, workedOut}
 
--- ---- a pathway is there exactly when the upper term sum is above zero
-module _ (vs : List Decimal) (qs : List Fraction) (r : Represents Up vs qs) (fs : List Formula) (o : Sounds 15 600 fs) (h : length fs ≡ 3) where
-  three : length (map (termOf vs Up) fs) ≡ 3
-  three = length-map fs (termOf vs Up) ∙ h
+-- ---- a pathway is there exactly when the term sum is above zero, in either direction
+module _ (dir : Direction) (vs : List Decimal) (qs : List Fraction) (r : Represents dir vs qs) (fs : List Formula) (o : Sounds 15 600 fs) (h : length fs ≡ 3) where
+  three : length (map (termOf vs dir) fs) ≡ 3
+  three = length-map fs (termOf vs dir) ∙ h
 
-  pub total-bounds : Fair Up 18 603 (totalOf vs Up fs) (exactTotal qs fs)
-  total-bounds = subst (λ (n : ℕ). Fair Up (15 + n) (600 + n) (totalOf vs Up fs) (exactTotal qs fs)) three (total-fair Up vs qs r (lit≤ tt) fs o (rw three (lit≤ tt)))
+  pub total-bounds : Fair dir 18 603 (totalOf vs dir fs) (exactTotal qs fs)
+  total-bounds = subst (λ (n : ℕ). Fair dir (15 + n) (600 + n) (totalOf vs dir fs) (exactTotal qs fs)) three (total-fair dir vs qs r (lit≤ tt) fs o (rw three (lit≤ tt)))
 
-  pub present-total : not (eqb (totalOf vs Up fs .m) 0) ≡ anyPresent qs fs
-  present-total = ap not (fair-zero total-bounds) ∙ total-present Up vs qs r (lit≤ tt) fs o
+  pub present-total : not (eqb (totalOf vs dir fs .m) 0) ≡ anyPresent qs fs
+  present-total = ap not (fair-zero total-bounds) ∙ total-present dir vs qs r (lit≤ tt) fs o
 
 pub any-same : (vs : List Decimal) (qs : List Fraction) → Represents Up vs qs → (fs : List Formula) → anyPathway vs fs ≡ anyPresent qs fs
 any-same vs qs r [] = refl
 any-same vs qs r (f ∷ fs) = rw (present-is Up vs qs r f, any-same vs qs r fs)
 
 pub any-total : (vs : List Decimal) (qs : List Fraction) → Represents Up vs qs → (fs : List Formula) → Sounds 15 600 fs → length fs ≡ 3 → not (eqb (totalOf vs Up fs .m) 0) ≡ anyPathway vs fs
-any-total vs qs r fs o h = present-total vs qs r fs o h ∙ sym (any-same vs qs r fs)
+any-total vs qs r fs o h = present-total Up vs qs r fs o h ∙ sym (any-same vs qs r fs)
 
 -- ---- the answer by its two tests
-either : (a b : Bool) → not a || not b ≡ not (a && b)
+pub either : (a b : Bool) → not a || not b ≡ not (a && b)
 either true b = refl
 either false b = refl
 

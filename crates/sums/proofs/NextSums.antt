@@ -74,7 +74,7 @@ module _ {s : Scenario} {medium : ℕ} {r : Contaminant} {side : ℕ} {above bel
   -- the side has a pathway exactly when its upper term sum is above zero
   pub has-pathway : not (eqb (upper .m) 0) ≡ hasPathway s medium r side
   unfolding hasPathway termSum
-  has-pathway = ap not (stands-zero upper-sum) ∙ any-total _ _ (values-of s medium r (h .accepted)) fs (table-sound medium (r .class) side) three
+  has-pathway = ap not (stands-zero upper-sum) ∙ any-total _ _ (values-of Up s medium r (h .accepted)) fs (table-sound medium (r .class) side) three
 
   -- ---- the guidelines of the record are in range too
   column : Column

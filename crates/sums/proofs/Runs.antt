@@ -21,6 +21,7 @@ use Rattle.inputs.proofs.Tests.{and-split}
 use Rattle.terms.specs.Formula.{Formula, pathwaysOf}
 use Rattle.terms.specs.Term.{inputsOf, valuesOf}
 use Rattle.terms.specs.ExactTerm.{exactValues, anyPresent}
+use Rattle.terms.proofs.TermBounds.{or-assoc, or-false}
 use Rattle.guideline.specs.Guideline.{anyPathway, allRanged}
 use Rattle.guideline.specs.Column.{Accepted}
 use Rattle.guideline.proofs.WorkedOut.{any-same}
@@ -45,17 +46,9 @@ pub run-upper : (s : Scenario) (medium side : ℕ) (rs : List Contaminant) (t : 
 run-upper s medium side [] t = refl
 run-upper s medium side (r ∷ rs) t = run-upper s medium side rs (next s medium side t r)
 
-or-assoc : (a b c : Bool) → (a || b) || c ≡ a || (b || c)
-or-assoc true b c = refl
-or-assoc false b c = refl
-
-or-false : (b : Bool) → b ≡ b || false
-or-false true = refl
-or-false false = refl
-
 has-same : (s : Scenario) (medium side : ℕ) (r : Contaminant) → Accepted s medium r → hasPathway s medium r side ≡ anyPresent (exactValues (inputsOf s r)) (pathwaysOf medium (r .class) side)
 unfolding hasPathway
-has-same s medium side r a = any-same (valuesOf Up (inputsOf s r)) (exactValues (inputsOf s r)) (values-of s medium r a) (pathwaysOf medium (r .class) side)
+has-same s medium side r a = any-same (valuesOf Up (inputsOf s r)) (exactValues (inputsOf s r)) (values-of Up s medium r a) (pathwaysOf medium (r .class) side)
 
 pub run-any : (s : Scenario) (medium side : ℕ) (rs : List Contaminant) → AllAccepted s medium rs → (t : Running) → runAll s medium side t rs .any ≡ t .any || somePathway s medium side rs
 run-any s medium side [] nobody t = or-false (t .any)

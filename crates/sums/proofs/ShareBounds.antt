@@ -23,18 +23,17 @@ use Rattle.inputs.specs.Inputs.{contaminantDecimals}
 use Rattle.inputs.specs.Valid.{validOf, allValid}
 use Rattle.inputs.proofs.Tests.{Small, valid-small, valid-at}
 use Rattle.terms.specs.Formula.{Formula, pathwaysOf}
-use Rattle.terms.specs.Term.{termOf, totalOf, inputsOf, valuesOf}
+use Rattle.terms.specs.Term.{inputsOf, valuesOf}
 use Rattle.terms.specs.ExactTerm.{exactTotal, exactValues}
 use Rattle.terms.proofs.Sound.{table-sound, three-pathways}
-use Rattle.terms.proofs.TermBounds.{Represents, total-fair}
-use Rattle.terms.proofs.ValueBounds.{values-stand}
 use Rattle.guideline.specs.Column.{Accepted}
-use Rattle.guideline.proofs.Steps.{inputs-valid}
+use Rattle.guideline.proofs.WorkedOut.{total-bounds}
+use Rattle.guideline.proofs.Steps.{values-of}
 use Rattle.sums.specs.Share.{termSum, shareOf, exactShare}
 use Rattle.sums.specs.Promise.{exactSum}
 
 -- ---- a product of what stands for fractions, zeros included
-fair-bottom : {dir : Direction} {k w : ℕ} {d : Decimal} {q : Fraction} → Fair dir k w d q → 0 < q .bottom
+pub fair-bottom : {dir : Direction} {k w : ℕ} {d : Decimal} {q : Fraction} → Fair dir k w d q → 0 < q .bottom
 fair-bottom (none e t b) = b
 fair-bottom (some f) = f .bottom
 
@@ -47,12 +46,7 @@ fair-mul dir h (some f) (some g) = some (approx-mul dir f g h)
 module _ (s : Scenario) (medium : ℕ) (side : ℕ) (l : side < 2) (dir : Direction) where
   sum-bounds : (r : Contaminant) → Accepted s medium r → Fair dir 18 603 (termSum s medium r dir side) (exactTotal (exactValues (inputsOf s r)) (pathwaysOf medium (r .class) side))
   unfolding termSum
-  sum-bounds r a =
-      let fs = pathwaysOf medium (r .class) side in
-      let vs = valuesOf dir (inputsOf s r) in
-      let three : length (map (termOf vs dir) fs) ≡ 3 = length-map fs (termOf vs dir) ∙ three-pathways medium (r .class) side (a .media) (a .class) l in
-      subst (λ (n : ℕ). Fair dir (15 + n) (600 + n) (totalOf vs dir fs) (exactTotal (exactValues (inputsOf s r)) fs)) three
-      (total-fair dir vs (exactValues (inputsOf s r)) (values-stand dir (inputsOf s r) (inputs-valid s r (a .scenario) (a .contaminant))) (lit≤ tt) fs (table-sound medium (r .class) side) (rw three (lit≤ tt)))
+  sum-bounds r a = total-bounds dir _ _ (values-of dir s medium r a) (pathwaysOf medium (r .class) side) (table-sound medium (r .class) side) (three-pathways medium (r .class) side (a .media) (a .class) l)
 
   concentration : (r : Contaminant) → Accepted s medium r → Fair dir 0 28 (workingOf (r .c)) (given (r .c))
   concentration r a = let k = valid-small (r .c) (valid-at (contaminantDecimals r) (a .contaminant) 7) in working-fair dir (r .c) (k .digits) (k .low) (k .high)

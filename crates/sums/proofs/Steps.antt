@@ -25,6 +25,7 @@ use Rattle.terms.proofs.SameValues.{values-same}
 use Rattle.rounding.specs.Operations.{sumOf}
 use Rattle.guideline.specs.Column.{Accepted}
 use Rattle.guideline.specs.Guideline.{allRanged}
+use Rattle.guideline.proofs.WorkedOut.{either}
 use Rattle.guideline.proofs.Steps.{accepted-inputs, sides}
 use Rattle.sums.specs.declared.SideRun.{SideRun}
 use Rattle.sums.specs.declared.State.{State}
@@ -84,10 +85,6 @@ pub record Worked (t : State) (r : Contaminant) (x : Toxicity) (up down : Terms)
   pub risk-lower : c ≡ sumOf Down (sumOf Down (down .risk .first) (down .risk .second)) (down .risk .third)
   pub hazard-lower : d ≡ sumOf Down (sumOf Down (down .hazard .first) (down .hazard .second)) (down .hazard .third)
 
-nor : (a b : Bool) → not a || not b ≡ not (a && b)
-nor true b = refl
-nor false b = refl
-
 module _ {t : State} {r : Contaminant} {x : Toxicity} {up down : Terms} {a b c d : Biased} (h : Worked t r x up down a b c d) where
   g : Good t
   g = h .advancing .good
@@ -117,7 +114,7 @@ module _ {t : State} {r : Contaminant} {x : Toxicity} {up down : Terms} {a b c d
   }
 
   any-is : hasPathway (t .scenario) (t .medium) r 0 || hasPathway (t .scenario) (t .medium) r 1 ≡ not (eqb (a .m) 0 && eqb (b .m) 0)
-  any-is = rw (← has-pathway risk-side, ← has-pathway hazard-side) (nor (eqb (a .m) 0) (eqb (b .m) 0))
+  any-is = rw (← has-pathway risk-side, ← has-pathway hazard-side) (either (eqb (a .m) 0) (eqb (b .m) 0))
 
   -- refusal 8
   pub none-steps : {u : State} → eqb (a .m) 0 && eqb (b .m) 0 ≡ true → u ≡ refuseOf t Pathway → Stepped t r u

@@ -36,7 +36,7 @@ use Rattle.sums.specs.Share.{Running, start, shareOf, exactShare}
 use Rattle.sums.specs.Verdict.{verdictNumber, verdictOf}
 use Rattle.sums.specs.ListCall.{workingTarget, sideSums, sumsOf}
 use Rattle.sums.specs.Promise.{exactSum, somePathway, noConcentration, sideAt, more, less, Enclosed, MoreThan, Judged}
-use Rattle.sums.proofs.ShareBounds.{AllAccepted, list-bounds}
+use Rattle.sums.proofs.ShareBounds.{fair-bottom, AllAccepted, list-bounds}
 use Rattle.sums.proofs.ShareBounds.AllAccepted.{nobody, also}
 use Rattle.sums.proofs.Runs.{runAll, run-lower, run-upper, run-any, AcceptedList, accepted-list}
 
@@ -69,10 +69,6 @@ above up q (none e t b) =
     let z : valueOf up ≡ 0 = ap valueOf e ∙ zero-mul (10 ^ 3000) in
     record { side = omega (arith, ap (λ (n : ℕ). n * one) t); near = omega (arith, ap (λ (n : ℕ). n * (q .bottom * 1000000)) z) }
 above up q (some f) = record { side = omega (arith, f .near .within .low); near = omega (arith, upper-core (q .top * one) (valueOf up * q .bottom) (f .near .within)) }
-
-fair-bottom : {dir : Direction} {k w : ℕ} {d : Decimal} {q : Fraction} → Fair dir k w d q → 0 < q .bottom
-fair-bottom (none e t b) = b
-fair-bottom (some f) = f .bottom
 
 -- ---- the comparison of two working decimals
 at-most-is : (a b : Decimal) → Operable a → Operable b → atMostOf a b ≡ leb (valueOf a) (valueOf b)

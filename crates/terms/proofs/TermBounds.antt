@@ -128,11 +128,11 @@ pub fair-bottom : {dir : Direction} {k w : ℕ} {d : Decimal} {q : Fraction} →
 fair-bottom (none e t b) = b
 fair-bottom (some f) = f .bottom
 
-or-assoc : (a b c : Bool) → (a || b) || c ≡ a || (b || c)
+pub or-assoc : (a b c : Bool) → (a || b) || c ≡ a || (b || c)
 or-assoc true b c = refl
 or-assoc false b c = refl
 
-or-false : (b : Bool) → b ≡ b || false
+pub or-false : (b : Bool) → b ≡ b || false
 or-false true = refl
 or-false false = refl
 
