@@ -108,14 +108,15 @@ fn rank(r: Biased) -> u64
     pick(m == 0, 0, x)
 }
 
-// The number itself if the test holds, else the other one.
+// The number itself if the test holds, else the other one. Its parts are picked one by one, so that no
+// branch depends on the test.
 fn choose(test: bool, p: Biased, q: Biased) -> Biased
     ensures { λ r. ⌜ r ≡ cond test p q ⌝ }
 {
-    if test {
-        return p;
+    Biased {
+        m: pick(test, p.m, q.m),
+        x: pick(test, p.x, q.x),
     }
-    q
 }
 
 // p + q, where q does not come after p in the order of exponents. A gap of nine places or more
