@@ -8,6 +8,7 @@ use native.Mathlib.Omega.{arith}
 use lib.Dec.{eqb, lit<, lit≤}
 use lib.ListN.{length, getD}
 use borrow.Author.Tests.{eqb-true, eqb-false, ne-eqb, not-false}
+use Rattle.rounding.specs.declared.Direction.{Direction}
 use Rattle.rounding.specs.declared.Direction.the-variants.{Down, Up}
 use Rattle.rounding.specs.Within.{Within}
 use Rattle.rounding.specs.Biased.{one}
@@ -68,9 +69,16 @@ module _ {target : Decimal} {t : Fraction} (h : Approx Down 0 28 target t) where
   guideline-value {d} (none e z b) = absent (ap (λ (v : Decimal). divOf target v Down) e ∙ div-zero Down target)
   guideline-value (some f) = known (approx-div Down h f (lit≤ tt) .sized)
 
-fair-value : {k w : ℕ} {d : Decimal} {q : Fraction} → Fair Up k w d q → Value w d
+pub fair-value : {dir : Direction} {k w : ℕ} {d : Decimal} {q : Fraction} → Fair dir k w d q → Value w d
 fair-value (none e z b) = absent e
 fair-value (some f) = known (f .sized)
+
+-- ---- a term of an accepted call, in either direction
+pub term-bounds : (dir : Direction) (s : Scenario) (medium : ℕ) (r : Contaminant) → Accepted s medium r → (side n : ℕ) →
+    Fair dir 18 603 (termOf (valuesOf dir (inputsOf s r)) dir (getD (pathwaysOf medium (r .class) side) n noFormula)) (exactTerm (exactValues (inputsOf s r)) (getD (pathwaysOf medium (r .class) side) n noFormula))
+term-bounds dir s medium r a side n =
+    fair-most dir (lit≤ tt) (lit≤ tt)
+    (term-fair dir _ _ (values-of dir s medium r a) {K = 15} {W = 600} (lit≤ tt) (getD (pathwaysOf medium (r .class) side) n noFormula) (sound-at (table-sound medium (r .class) side) (none-sound 15 600 (lit≤ tt) (lit≤ tt)) n))
 
 -- ---- one side of an accepted call
 module _ (s : Scenario) (medium : ℕ) (r : Contaminant) (a : Accepted s medium r) where
@@ -85,9 +93,6 @@ module _ (s : Scenario) (medium : ℕ) (r : Contaminant) (a : Accepted s medium 
 
   abbrev pathways : ℕ → List Formula
   pathways side = pathwaysOf medium (r .class) side
-
-  term-bounds : (side n : ℕ) → Fair Up 18 603 (termOf vs Up (getD (pathways side) n noFormula)) (exactTerm qs (getD (pathways side) n noFormula))
-  term-bounds side n = fair-most Up (lit≤ tt) (lit≤ tt) (term-fair Up vs qs reps {K = 15} {W = 600} (lit≤ tt) (getD (pathways side) n noFormula) (sound-at (table-sound medium (r .class) side) (none-sound 15 600 (lit≤ tt) (lit≤ tt)) n))
 
   term-there : (side n : ℕ) → not (eqb (exactTerm qs (getD (pathways side) n noFormula) .top) 0) ≡ exactPresent qs (getD (pathways side) n noFormula)
   term-there side n = term-present Up vs qs reps {K = 15} {W = 600} (lit≤ tt) (getD (pathways side) n noFormula) (sound-at (table-sound medium (r .class) side) (none-sound 15 600 (lit≤ tt) (lit≤ tt)) n)
@@ -111,7 +116,7 @@ module _ (s : Scenario) (medium : ℕ) (r : Contaminant) (a : Accepted s medium 
   unfolding valuesOf exactValues derived
   hazard-target = fair-there (reps .other THI refl) (given-some (s .thi) (a .hazard-target))
 
-  abbrev sideValues : ℕ → Decimal
+  abbrev pub sideValues : ℕ → Decimal
   sideValues zero = look vs TR
   sideValues (suc n) = look vs THI
 
@@ -126,24 +131,24 @@ module _ (s : Scenario) (medium : ℕ) (r : Contaminant) (a : Accepted s medium 
 
   pathway-promise : (side n : ℕ) → n < 3 → Promised (pathwayAt (sideOf vs (sideValues side) (pathways side)) n) (given (targetOf s side)) (exactPresent qs (getD (pathways side) n noFormula)) (exactTerm qs (getD (pathways side) n noFormula))
   unfolding sideOf
-  pathway-promise side zero h = promised (target-bounds side) _ (term-bounds side 0) (term-there side 0)
-  pathway-promise side (suc zero) h = promised (target-bounds side) _ (term-bounds side 1) (term-there side 1)
-  pathway-promise side (suc (suc zero)) h = promised (target-bounds side) _ (term-bounds side 2) (term-there side 2)
+  pathway-promise side zero h = promised (target-bounds side) _ (term-bounds Up s medium r a side 0) (term-there side 0)
+  pathway-promise side (suc zero) h = promised (target-bounds side) _ (term-bounds Up s medium r a side 1) (term-there side 1)
+  pathway-promise side (suc (suc zero)) h = promised (target-bounds side) _ (term-bounds Up s medium r a side 2) (term-there side 2)
   pathway-promise side (suc (suc (suc n))) h = absurd (omega (arith, h))
 
   -- ---- no exponent leaves its limits
-  ranged : (side : ℕ) → side < 2 → allRanged (sideDecimals vs (sideValues side) (pathways side)) ≡ true
+  pub ranged : (side : ℕ) → side < 2 → allRanged (sideDecimals vs (sideValues side) (pathways side)) ≡ true
   unfolding sideOf
   ranged side h =
       let t = target-bounds side in
       rw (
-        value-inside (fair-value (term-bounds side 0)) .inside,
-        value-inside (fair-value (term-bounds side 1)) .inside,
-        value-inside (fair-value (term-bounds side 2)) .inside,
+        value-inside (fair-value (term-bounds Up s medium r a side 0)) .inside,
+        value-inside (fair-value (term-bounds Up s medium r a side 1)) .inside,
+        value-inside (fair-value (term-bounds Up s medium r a side 2)) .inside,
         value-inside (fair-value (total-fairly side h)) .inside,
-        value-inside (guideline-value t (term-bounds side 0)) .inside,
-        value-inside (guideline-value t (term-bounds side 1)) .inside,
-        value-inside (guideline-value t (term-bounds side 2)) .inside,
+        value-inside (guideline-value t (term-bounds Up s medium r a side 0)) .inside,
+        value-inside (guideline-value t (term-bounds Up s medium r a side 1)) .inside,
+        value-inside (guideline-value t (term-bounds Up s medium r a side 2)) .inside,
         value-inside (guideline-value t (total-fairly side h)) .inside,
       )
 

@@ -1,7 +1,10 @@
 pub mod ShareBounds
+pub mod KnownValues
 pub mod Runs
 pub mod Verdicts
+pub mod InRange
 pub mod States
 pub mod NextSums
 pub mod Steps
+pub mod Started
 pub mod ExampleSums

@@ -1,4 +1,4 @@
--- What one record adds to the sums of a side: the code's numbers stand for the definitions' next sums, and all is in range. Assumes nothing.
+-- What one record adds to the sums of a side: the code's numbers stand for the definitions' next sums. Assumes nothing.
 use mathlib.Core.Path.{_≡_, refl, sym, ap, subst, _∙_}
 use mathlib.Core.Bool.{Bool, true, false, not, _&&_, _||_}
 use mathlib.Core.List.{List, [], _∷_, _++_}
@@ -9,46 +9,37 @@ use lib.ListN.{length}
 use Rattle.rounding.specs.declared.Direction.{Direction}
 use Rattle.rounding.specs.declared.Direction.the-variants.{Down, Up}
 use Rattle.rounding.specs.declared.Biased.{Biased}
-use Rattle.rounding.specs.Operations.{productOf, quotientOf, sumOf}
+use Rattle.rounding.specs.Operations.{productOf, sumOf}
 use Rattle.decimal.specs.declared.Decimal.{Decimal}
-use Rattle.decimal.specs.Exponent.{inRange}
 use Rattle.decimal.specs.Decimal.{decimalOf, workingOf}
 use Rattle.inputs.specs.declared.Scenario.{Scenario}
 use Rattle.inputs.specs.declared.Contaminant.{Contaminant}
-use Rattle.inputs.proofs.Tests.{and-split}
 use Rattle.terms.specs.declared.pathways.Side.{Side}
 use Rattle.terms.specs.Formula.{Formula, pathwaysOf}
 use Rattle.terms.specs.Term.{inputsOf, valuesOf}
 use Rattle.terms.specs.Stands.{Stands}
 use Rattle.terms.proofs.StandsLaws.{stands-own, stands-mul, stands-add}
 use Rattle.terms.proofs.Sound.{table-sound, three-pathways}
-use Rattle.guideline.specs.declared.Column.{Column}
-use Rattle.guideline.specs.Column.{ColumnFor, Accepted}
-use Rattle.guideline.specs.Guideline.{sideDecimals, allRanged}
-use Rattle.guideline.proofs.ColumnBounds.{SideStands, sum-stands, column-stands, side-ranged, stands-zero, stands-inside, stands-ranged}
+use Rattle.guideline.specs.Column.{Accepted}
+use Rattle.guideline.proofs.ColumnBounds.{SideStands, sum-stands, stands-zero}
 use Rattle.guideline.proofs.WorkedOut.{any-total}
 use Rattle.guideline.proofs.Steps.{values-of}
-use Rattle.sums.specs.declared.SideRun.{SideRun}
+use Rattle.sums.specs.declared.shares.SideRun.{SideRun}
 use Rattle.sums.specs.Share.{Running, next, termSum, shareOf, hasPathway}
-use Rattle.sums.specs.ListCall.{workingTarget, sumDecimals, blockDecimals}
-use Rattle.sums.specs.State.{runningOf, SideReady, Shared, runRanged}
+use Rattle.sums.specs.Plan.{runningOf, Shared}
+use Rattle.sums.specs.State.{SideReady}
 
--- the terms of a side in both directions with their sums, the target and the concentration
-pub record SideTerms (s : Scenario) (medium : ℕ) (r : Contaminant) (side : ℕ) (p q : Side) (a b n k : Biased) : Type 0 where
+-- the terms of a side in both directions with their sums, and the concentration
+pub record SideTerms (s : Scenario) (medium : ℕ) (r : Contaminant) (side : ℕ) (p q : Side) (a b k : Biased) : Type 0 where
   pub accepted : Accepted s medium r
   pub place : side < 2
   pub above : SideStands Up (valuesOf Up (inputsOf s r)) (pathwaysOf medium (r .class) side) p
   pub below : SideStands Down (valuesOf Down (inputsOf s r)) (pathwaysOf medium (r .class) side) q
   pub upper : a ≡ sumOf Up (sumOf Up (p .first) (p .second)) (p .third)
   pub lower : b ≡ sumOf Down (sumOf Down (q .first) (q .second)) (q .third)
-  pub target : Stands 28 n (workingTarget s side)
   pub c : Stands 28 k (workingOf (r .c))
 
-ranged-append : (xs ys : List Decimal) → allRanged xs ≡ true → allRanged ys ≡ true → allRanged (xs ++ ys) ≡ true
-ranged-append [] ys h k = k
-ranged-append (x ∷ xs) ys h k = let p = and-split (inRange (x .e)) (allRanged xs) h in rw (p .0) (ranged-append xs ys (p .1) k)
-
-module _ {s : Scenario} {medium : ℕ} {r : Contaminant} {side : ℕ} {above below : Side} {upper lower target c : Biased} (h : SideTerms s medium r side above below upper lower target c) where
+module _ {s : Scenario} {medium : ℕ} {r : Contaminant} {side : ℕ} {above below : Side} {upper lower c : Biased} (h : SideTerms s medium r side above below upper lower c) where
   abbrev fs : List Formula
   fs = pathwaysOf medium (r .class) side
 
@@ -76,23 +67,6 @@ module _ {s : Scenario} {medium : ℕ} {r : Contaminant} {side : ℕ} {above bel
   unfolding hasPathway termSum
   has-pathway = ap not (stands-zero upper-sum) ∙ any-total _ _ (values-of Up s medium r (h .accepted)) fs (table-sound medium (r .class) side) three
 
-  -- ---- the guidelines of the record are in range too
-  column : Column
-  column = record {
-    first = quotientOf Down target (above .first);
-    second = quotientOf Down target (above .second);
-    third = quotientOf Down target (above .third);
-    total = quotientOf Down target (sumOf Up (sumOf Up (above .first) (above .second)) (above .third));
-    sum = sumOf Up (sumOf Up (above .first) (above .second)) (above .third);
-  }
-
-  column-made : ColumnFor target above column
-  unfolding column
-  column-made = record { sum = refl; first = refl; second = refl; third = refl; total = refl }
-
-  guidelines-ranged : allRanged (sideDecimals (valuesOf Up (inputsOf s r)) (workingTarget s side) fs) ≡ true
-  guidelines-ranged = side-ranged (h .above) (column-stands _ fs above three (h .above) target (workingTarget s side) column (h .target) column-made)
-
   -- ---- one step
   module _ {w : ℕ} (low : 631 ≤ w) (high : w ≤ 900) {x y : SideRun} (ready : SideReady w x) (e : Shared x c lower upper y) where
     upper-next : Stands (w + 1) (y .upper) (next s medium side (runningOf x) r .upper)
@@ -106,20 +80,3 @@ module _ {s : Scenario} {medium : ℕ} {r : Contaminant} {side : ℕ} {above bel
 
     pub next-is : runningOf y ≡ next s medium side (runningOf x) r
     next-is = rw (lower-next .is, upper-next .is, e .some, has-pathway)
-
-    pub next-ranged : runRanged y ≡ true
-    next-ranged = rw (stands-ranged (omega (arith, high)) lower-next, stands-ranged (omega (arith, high)) upper-next)
-
-    pub block-ranged : allRanged (blockDecimals s medium side (runningOf x) r) ≡ true
-    block-ranged =
-        ranged-append (sideDecimals (valuesOf Up (inputsOf s r)) (workingTarget s side) fs) (sumDecimals s medium side (runningOf x) r) guidelines-ranged
-        (rw (
-          stands-inside (lit≤ tt) (h .below .first) .inside,
-          stands-inside (lit≤ tt) (h .below .second) .inside,
-          stands-inside (lit≤ tt) (h .below .third) .inside,
-          stands-inside (lit≤ tt) lower-sum .inside,
-          stands-inside (lit≤ tt) lower-share .inside,
-          stands-inside (lit≤ tt) upper-share .inside,
-          stands-inside (omega (arith, high)) lower-next .inside,
-          stands-inside (omega (arith, high)) upper-next .inside,
-        ))

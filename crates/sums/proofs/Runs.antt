@@ -6,13 +6,14 @@ use Prim.Native.Nat.{ℕ, zero, suc, _+_, _≤_, _<_}
 use native.Mathlib.Omega.{arith}
 use lib.Dec.{eqb, leb}
 use lib.ListN.{length}
-use borrow.Author.Tests.{leb-true}
+use borrow.Author.Tests.{leb-true, eqb-true, eqb-false}
 use Rattle.rounding.specs.declared.Direction.{Direction}
 use Rattle.rounding.specs.declared.Direction.the-variants.{Down, Up}
 use Rattle.decimal.specs.declared.Decimal.{Decimal}
 use Rattle.decimal.specs.Decimal.{zeroOf}
 use Rattle.decimal.specs.Lists.{added}
-use Rattle.outcome.specs.declared.Refusal.the-variants.{Length, Field, Factor, Order, Pathway, Range}
+use Rattle.outcome.specs.declared.Refusal.{Refusal}
+use Rattle.outcome.specs.declared.Refusal.the-variants.{Accepted as NotRefused, Length, Field, Factor, Order, Pathway, Range}
 use Rattle.outcome.specs.Outcome.{numberOf}
 use Rattle.inputs.specs.declared.Scenario.{Scenario}
 use Rattle.inputs.specs.declared.Contaminant.{Contaminant}
@@ -28,7 +29,7 @@ use Rattle.guideline.proofs.WorkedOut.{any-same}
 use Rattle.guideline.proofs.Steps.{accepted-inputs, values-of}
 use Rattle.sums.specs.declared.SumsAnswer.{SumsAnswer}
 use Rattle.sums.specs.Share.{Running, start, next, shareOf, hasPathway}
-use Rattle.sums.specs.ListCall.{blockDecimals, refused, sideSums, accepted, walk, sumsOf}
+use Rattle.sums.specs.ListCall.{blockDecimals, refused, sideSums, accepted, firstRefusal, walk, sumsOf}
 use Rattle.sums.specs.Promise.{somePathway, sideAt}
 use Rattle.sums.proofs.ShareBounds.{AllAccepted}
 use Rattle.sums.proofs.ShareBounds.AllAccepted.{nobody, also}
@@ -88,24 +89,34 @@ pub record AcceptedList (s : Scenario) (medium : ℕ) (rs : List Contaminant) : 
   pub most : length rs ≤ 120
   pub sides : (side : ℕ) → side < 2 → sideAt (sumsOf s medium rs) side ≡ sideSums s side (runAll s medium side start rs)
 
-outer : (s : Scenario) (medium : ℕ) (rs : List Contaminant) (a b c : Bool) (w : SumsAnswer) → numberOf (cond a (cond b (cond c (refused Factor 0) w) (refused Field 0)) (refused Length 0) .refusal) ≡ 0 →
-    (a ≡ true) × ((b ≡ true) × ((c ≡ false) × (numberOf (w .refusal) ≡ 0)))
-outer s medium rs true true false w h = (refl, (refl, (refl, h)))
-outer s medium rs true true true w h = absurd (omega (arith, h))
-outer s medium rs true false c w h = absurd (omega (arith, h))
-outer s medium rs false b c w h = absurd (omega (arith, h))
+-- the tests before the first record
+pub first-passed : (a b c : Bool) → numberOf (cond a (cond b (cond c Factor NotRefused) Field) Length) ≡ 0 → (a ≡ true) × ((b ≡ true) × (c ≡ false))
+first-passed true true false h = (refl, (refl, refl))
+first-passed true true true h = absurd (omega (arith, h))
+first-passed true false c h = absurd (omega (arith, h))
+first-passed false b c h = absurd (omega (arith, h))
+
+outer : (n : Refusal) (w : SumsAnswer) (b : Bool) → eqb (numberOf n) 0 ≡ b → numberOf (cond b w (refused n 0) .refusal) ≡ 0 → (numberOf n ≡ 0) × ((b ≡ true) × (numberOf (w .refusal) ≡ 0))
+outer n w true e h = (eqb-true (numberOf n) 0 e, (refl, h))
+outer n w false e h = absurd (eqb-false (numberOf n) 0 e h)
 
 module _ (s : Scenario) (medium : ℕ) (rs : List Contaminant) (h : numberOf (sumsOf s medium rs .refusal) ≡ 0) where
-  parts : (leb 1 (length rs) && leb (length rs) 120 ≡ true) × ((scenarioFits s medium ≡ true) × ((lacksFactor s ≡ false) × (numberOf (walk s medium rs 1 0 start start .refusal) ≡ 0)))
+  abbrev before : Refusal
+  before = firstRefusal s medium (length rs)
+
+  outside : (numberOf before ≡ 0) × ((eqb (numberOf before) 0 ≡ true) × (numberOf (walk s medium rs 1 0 start start .refusal) ≡ 0))
   unfolding sumsOf
-  parts = outer s medium rs (leb 1 (length rs) && leb (length rs) 120) (scenarioFits s medium) (lacksFactor s) (walk s medium rs 1 0 start start) h
+  outside = outer before (walk s medium rs 1 0 start start) (eqb (numberOf before) 0) refl h
+
+  parts : (leb 1 (length rs) && leb (length rs) 120 ≡ true) × ((scenarioFits s medium ≡ true) × (lacksFactor s ≡ false))
+  parts = first-passed (leb 1 (length rs) && leb (length rs) 120) (scenarioFits s medium) (lacksFactor s) (outside .0)
 
   walked : Walked s medium rs start start (walk s medium rs 1 0 start start)
-  walked = walk-accepted s medium (parts .1 .0) (parts .1 .1 .0) rs 1 0 start start (parts .1 .1 .1)
+  walked = walk-accepted s medium (parts .1 .0) (parts .1 .1) rs 1 0 start start (outside .1 .1)
 
   sums-is : sumsOf s medium rs ≡ accepted s (runAll s medium 0 start rs) (runAll s medium 1 start rs)
   unfolding sumsOf
-  sums-is = rw (parts .0, parts .1 .0, parts .1 .1 .0) (walked .is)
+  sums-is = rw (outside .1 .0) (walked .is)
 
   side-is : (side : ℕ) → side < 2 → sideAt (sumsOf s medium rs) side ≡ sideSums s side (runAll s medium side start rs)
   side-is zero l = ap (λ (w : SumsAnswer). w .risk) sums-is

@@ -44,7 +44,7 @@ fair-mul dir h (some f) (some g) = some (approx-mul dir f g h)
 
 -- ---- the share of one record
 module _ (s : Scenario) (medium : ℕ) (side : ℕ) (l : side < 2) (dir : Direction) where
-  sum-bounds : (r : Contaminant) → Accepted s medium r → Fair dir 18 603 (termSum s medium r dir side) (exactTotal (exactValues (inputsOf s r)) (pathwaysOf medium (r .class) side))
+  pub sum-bounds : (r : Contaminant) → Accepted s medium r → Fair dir 18 603 (termSum s medium r dir side) (exactTotal (exactValues (inputsOf s r)) (pathwaysOf medium (r .class) side))
   unfolding termSum
   sum-bounds r a = total-bounds dir _ _ (values-of dir s medium r a) (pathwaysOf medium (r .class) side) (table-sound medium (r .class) side) (three-pathways medium (r .class) side (a .media) (a .class) l)
 

@@ -1,157 +1,139 @@
--- One step of the list call: the state after a record gives the same answer for the rest. Assumes nothing.
+-- What one record makes of the running sums of both sides, and the state of the list call after it. Assumes nothing.
 use mathlib.Core.Path.{_≡_, refl, sym, ap, subst, _∙_}
-use mathlib.Core.Bool.{Bool, true, false, not, cond, _&&_, _||_}
+use mathlib.Core.Bool.{Bool, true, false, _||_}
 use mathlib.Core.List.{List, [], _∷_}
 use Prim.Native.Nat.{ℕ, zero, suc, _+_, _≤_, _<_}
 use native.Mathlib.Omega.{arith}
 use lib.Dec.{eqb, leb, lit<, lit≤}
-use lib.ListN.{length}
 use borrow.Author.Tests.{eq-eqb}
 use Rattle.rounding.specs.declared.Direction.the-variants.{Down, Up}
 use Rattle.rounding.specs.declared.Biased.{Biased}
-use Rattle.outcome.specs.declared.Refusal.the-variants.{Pathway}
+use Rattle.rounding.specs.Operations.{sumOf}
+use Rattle.decimal.specs.Decimal.{workingOf}
 use Rattle.outcome.specs.Outcome.{numberOf}
 use Rattle.inputs.specs.declared.Scenario.{Scenario}
 use Rattle.inputs.specs.declared.Contaminant.{Contaminant}
-use Rattle.inputs.specs.Inputs.{contaminantDecimals}
-use Rattle.inputs.specs.Valid.{allValid}
 use Rattle.inputs.specs.Rules.{contaminantFits}
-use Rattle.terms.specs.declared.numbers.Toxicity.{Toxicity}
-use Rattle.terms.specs.declared.pathways.Terms.{Terms}
 use Rattle.terms.specs.declared.pathways.Side.{Side}
-use Rattle.terms.specs.Stands.{ToxicityFor}
-use Rattle.terms.specs.Side.{TermsFor, OneOrTwo}
+use Rattle.terms.specs.Side.{TotalSize, WideSide, Wide}
+use Rattle.terms.specs.Stands.{Stands, Input}
+use Rattle.terms.proofs.StandsLaws.{stands-own}
 use Rattle.terms.proofs.SameValues.{values-same}
-use Rattle.rounding.specs.Operations.{sumOf}
 use Rattle.guideline.specs.Column.{Accepted}
-use Rattle.guideline.specs.Guideline.{allRanged}
-use Rattle.guideline.proofs.WorkedOut.{either}
 use Rattle.guideline.proofs.Steps.{accepted-inputs, sides}
-use Rattle.sums.specs.declared.SideRun.{SideRun}
+use Rattle.sums.specs.declared.shares.Plan.{Plan}
+use Rattle.sums.specs.declared.shares.Worked.{Worked}
+use Rattle.sums.specs.declared.shares.SideRun.{SideRun}
+use Rattle.sums.specs.declared.shares.Runs.{Runs}
 use Rattle.sums.specs.declared.State.{State}
 use Rattle.sums.specs.declared.SumsAnswer.{SumsAnswer}
 use Rattle.sums.specs.Share.{Running, next, hasPathway}
-use Rattle.sums.specs.ListCall.{refused, blockDecimals, walk}
-use Rattle.sums.specs.State.{runningOf, answerFrom, Room, SideReady, Good, Stepped, refuseOf, movedOf, RunSize, Shared, runRanged, Advancing}
-use Rattle.sums.proofs.States.{stepped-refused}
-use Rattle.sums.proofs.NextSums.{SideTerms, has-pathway, next-ready, next-is, next-ranged, block-ranged}
+use Rattle.sums.specs.Plan.{Workable, WorkedFor, runningOf, RunSize, Addable, Added}
+use Rattle.sums.specs.State.{steps, answerFrom, SideReady, RunsReady, Good, Stepped, movedOf, Advancing}
+use Rattle.sums.proofs.NextSums.{SideTerms, next-ready, next-is}
 
--- the answer for a record and the rest, from a state that is not refused
-abbrev walkFrom : State → Contaminant → List Contaminant → SumsAnswer
-walkFrom t r rs = walk (t .scenario) (t .medium) (r ∷ rs) (t .place) (t .previous) (runningOf (t .risk)) (runningOf (t .hazard))
+pub inputs-of : {p : Plan} {r : Contaminant} → Workable p r → Accepted (p .scenario) (p .medium) r
+inputs-of {p} {r} h = accepted-inputs (p .scenario) (p .medium) r (h .passed .fits) (h .passed .known) (h .contaminant)
 
-accepted-answer : (t : State) (rs : List Contaminant) → numberOf (t .refusal) ≡ 0 → answerFrom t rs ≡ walk (t .scenario) (t .medium) rs (t .place) (t .previous) (runningOf (t .risk)) (runningOf (t .hazard))
-unfolding answerFrom
-accepted-answer t rs h = rw (eq-eqb (numberOf (t .refusal)) 0 h)
+-- the sum of a side's upper terms
+abbrev pub UpperSum : Side → Biased → Type 0
+UpperSum s a = a ≡ sumOf Up (sumOf Up (s .first) (s .second)) (s .third)
 
--- ---- what the walk does with a record, by its tests
-module _ (t : State) (r : Contaminant) (rs : List Contaminant) where
-  walk-pathway : contaminantFits r ≡ true → leb (r .id) (t .previous) ≡ false → hasPathway (t .scenario) (t .medium) r 0 || hasPathway (t .scenario) (t .medium) r 1 ≡ false → walkFrom t r rs ≡ refused Pathway (t .place)
-  unfolding walk
-  walk-pathway h k e = rw (h, k, e)
-
-  walk-next : contaminantFits r ≡ true → leb (r .id) (t .previous) ≡ false → hasPathway (t .scenario) (t .medium) r 0 || hasPathway (t .scenario) (t .medium) r 1 ≡ true →
-      allRanged (blockDecimals (t .scenario) (t .medium) 0 (runningOf (t .risk)) r) ≡ true → allRanged (blockDecimals (t .scenario) (t .medium) 1 (runningOf (t .hazard)) r) ≡ true →
-      walkFrom t r rs ≡ walk (t .scenario) (t .medium) rs (t .place + 1) (r .id) (next (t .scenario) (t .medium) 0 (runningOf (t .risk)) r) (next (t .scenario) (t .medium) 1 (runningOf (t .hazard)) r)
-  unfolding walk
-  walk-next h k e a b = rw (h, k, e, a, b)
-
--- what a record that keeps its rules has
-module _ {t : State} {r : Contaminant} (h : Advancing t r) where
-  inputs-of : Accepted (t .scenario) (t .medium) r
-  inputs-of = accepted-inputs (t .scenario) (t .medium) r (h .good .fits (h .accepted)) (h .good .known (h .accepted)) (h .fits)
-
-  pub class-of : OneOrTwo (r .class)
-  class-of = inputs-of .class
-
-  pub contaminant-of : allValid (contaminantDecimals r) ≡ true
-  contaminant-of = inputs-of .contaminant
-
--- the sums of a state leave room for a share
+-- sums of n records leave room for a share
 pub ready-size : {n : ℕ} {x : SideRun} → n ≤ 121 → SideReady (632 + n) x → RunSize x
 ready-size h k = record {
   lower = record { most = k .lower .most; low = omega (arith, k .lower .low); high = omega (arith, k .lower .high) };
   upper = record { most = k .upper .most; low = omega (arith, k .upper .low); high = omega (arith, k .upper .high) };
 }
 
--- ---- a record that keeps its rules: its numbers, its terms in both directions, and their sums
-pub record Worked (t : State) (r : Contaminant) (x : Toxicity) (up down : Terms) (a b c d : Biased) : Type 0 where
-  pub advancing : Advancing t r
-  pub toxicity : ToxicityFor r x
-  pub above : TermsFor Up (t .up .factors) x (t .medium) (r .class) up
-  pub below : TermsFor Down (t .down .factors) x (t .medium) (r .class) down
-  pub risk-upper : a ≡ sumOf Up (sumOf Up (up .risk .first) (up .risk .second)) (up .risk .third)
-  pub hazard-upper : b ≡ sumOf Up (sumOf Up (up .hazard .first) (up .hazard .second)) (up .hazard .third)
-  pub risk-lower : c ≡ sumOf Down (sumOf Down (down .risk .first) (down .risk .second)) (down .risk .third)
-  pub hazard-lower : d ≡ sumOf Down (sumOf Down (down .hazard .first) (down .hazard .second)) (down .hazard .third)
+-- ---- the sums after one more record
+pub record NextRuns (s : Scenario) (medium : ℕ) (r : Contaminant) (n : ℕ) (x y : Runs) : Type 0 where
+  pub ready : RunsReady (632 + (n + 1)) y
+  pub risk : runningOf (y .risk) ≡ next s medium 0 (runningOf (x .risk)) r
+  pub hazard : runningOf (y .hazard) ≡ next s medium 1 (runningOf (x .hazard)) r
 
-module _ {t : State} {r : Contaminant} {x : Toxicity} {up down : Terms} {a b c d : Biased} (h : Worked t r x up down a b c d) where
-  g : Good t
-  g = h .advancing .good
+module _ {p : Plan} {r : Contaminant} {w : Worked} (h : Workable p r) (k : WorkedFor p r w) where
+  pub concentration : Input (w .c)
+  concentration = subst (λ (c : Biased). Input c) (sym (k .c)) (stands-own (k .toxicity .c))
 
-  risk-side : SideTerms (t .scenario) (t .medium) r 0 (up .risk) (down .risk) a c (t .factors .tr) (x .c)
-  risk-side = record {
-    accepted = inputs-of (h .advancing);
-    place = lit< tt;
-    above = sides (values-same Up (g .factors) (g .up) (h .toxicity)) (h .above .risk);
-    below = sides (values-same Down (g .factors) (g .down) (h .toxicity)) (h .below .risk);
-    upper = h .risk-upper;
-    lower = h .risk-lower;
-    target = g .factors .tr;
-    c = h .toxicity .c;
-  }
+  c-stands : Stands 28 (w .c) (workingOf (r .c))
+  c-stands = subst (λ (c : Biased). Stands 28 c (workingOf (r .c))) (sym (k .c)) (k .toxicity .c)
 
-  hazard-side : SideTerms (t .scenario) (t .medium) r 1 (up .hazard) (down .hazard) b d (t .factors .thi) (x .c)
-  hazard-side = record {
-    accepted = inputs-of (h .advancing);
-    place = lit< tt;
-    above = sides (values-same Up (g .factors) (g .up) (h .toxicity)) (h .above .hazard);
-    below = sides (values-same Down (g .factors) (g .down) (h .toxicity)) (h .below .hazard);
-    upper = h .hazard-upper;
-    lower = h .hazard-lower;
-    target = g .factors .thi;
-    c = h .toxicity .c;
-  }
-
-  any-is : hasPathway (t .scenario) (t .medium) r 0 || hasPathway (t .scenario) (t .medium) r 1 ≡ not (eqb (a .m) 0 && eqb (b .m) 0)
-  any-is = rw (← has-pathway risk-side, ← has-pathway hazard-side) (either (eqb (a .m) 0) (eqb (b .m) 0))
-
-  -- refusal 8
-  pub none-steps : {u : State} → eqb (a .m) 0 && eqb (b .m) 0 ≡ true → u ≡ refuseOf t Pathway → Stepped t r u
-  none-steps e k = stepped-refused r g (h .advancing .accepted) Pathway (λ q. omega (arith, q)) (λ rs. walk-pathway t r rs (h .advancing .fits) (h .advancing .rising) (any-is ∙ ap not e)) k
-
-  -- the new sums
-  module _ {y z : SideRun} (p : Shared (t .risk) (x .c) c a y) (q : Shared (t .hazard) (x .c) d b z) where
-    low : 631 ≤ 632 + t .place
-    low = omega arith
-
-    high : 632 + t .place ≤ 900
-    high = omega (arith, g .place)
-
-    pub sums-ranged : runRanged y && runRanged z ≡ true
-    sums-ranged = rw (next-ranged risk-side low high (g .risk) p, next-ranged hazard-side low high (g .hazard) q)
-
-    moved-answer : (rs : List Contaminant) → eqb (a .m) 0 && eqb (b .m) 0 ≡ false → answerFrom t (r ∷ rs) ≡ answerFrom (movedOf t (r .id) y z) rs
-    moved-answer rs e =
-        accepted-answer t (r ∷ rs) (h .advancing .accepted) ∙
-        walk-next t r rs (h .advancing .fits) (h .advancing .rising) (any-is ∙ ap not e) (block-ranged risk-side low high (g .risk) p) (block-ranged hazard-side low high (g .hazard) q) ∙
-        ap (λ (n : Running). walk (t .scenario) (t .medium) rs (t .place + 1) (r .id) n (next (t .scenario) (t .medium) 1 (runningOf (t .hazard)) r)) (sym (next-is risk-side low high (g .risk) p)) ∙
-        ap (λ (n : Running). walk (t .scenario) (t .medium) rs (t .place + 1) (r .id) (runningOf y) n) (sym (next-is hazard-side low high (g .hazard) q)) ∙
-        sym (accepted-answer (movedOf t (r .id) y z) rs (h .advancing .accepted))
-
-    moved-good : Good (movedOf t (r .id) y z)
-    moved-good = record {
-      place = omega (arith, h .advancing .place);
-      valid = g .valid;
-      media = g .media;
-      factors = g .factors;
-      up = g .up;
-      down = g .down;
-      risk = subst (λ (w : ℕ). SideReady w y) (omega arith) (next-ready risk-side low high (g .risk) p);
-      hazard = subst (λ (w : ℕ). SideReady w z) (omega arith) (next-ready hazard-side low high (g .hazard) q);
-      fits = g .fits;
-      known = g .known;
+  module _ {a b : Biased} (u : UpperSum (w .above .risk) a) (v : UpperSum (w .above .hazard) b) where
+    risk-side : SideTerms (p .scenario) (p .medium) r 0 (w .above .risk) (k .below .risk) a (w .risk) (w .c)
+    risk-side = record {
+      accepted = inputs-of h;
+      place = lit< tt;
+      above = sides (values-same Up (h .ready .factors) (h .ready .up) (k .toxicity)) (k .upper-terms .risk);
+      below = sides (values-same Down (h .ready .factors) (h .ready .down) (k .toxicity)) (k .lower-terms .risk);
+      upper = u;
+      lower = k .risk;
+      c = c-stands;
     }
 
-    pub moved-steps : {u : State} → eqb (a .m) 0 && eqb (b .m) 0 ≡ false → u ≡ movedOf t (r .id) y z → Stepped t r u
-    moved-steps e k = subst (Stepped t r) (sym k) (record { good = moved-good; same = λ rs n. moved-answer rs e; room = λ rs n. record { room = λ m. omega (arith, n .room m) } })
+    hazard-side : SideTerms (p .scenario) (p .medium) r 1 (w .above .hazard) (k .below .hazard) b (w .hazard) (w .c)
+    hazard-side = record {
+      accepted = inputs-of h;
+      place = lit< tt;
+      above = sides (values-same Up (h .ready .factors) (h .ready .up) (k .toxicity)) (k .upper-terms .hazard);
+      below = sides (values-same Down (h .ready .factors) (h .ready .down) (k .toxicity)) (k .lower-terms .hazard);
+      upper = v;
+      lower = k .hazard;
+      c = c-stands;
+    }
+
+    pub next-runs : {n : ℕ} {x y : Runs} → n ≤ 121 → RunsReady (632 + n) x → Added x w a b y → NextRuns (p .scenario) (p .medium) r n x y
+    next-runs {n} {x} {y} l g e =
+        let low : 631 ≤ 632 + n = omega arith in
+        let high : 632 + n ≤ 900 = omega (arith, l) in
+        let one : 632 + n + 1 ≡ 632 + (n + 1) = omega arith in
+        record {
+          ready = record {
+            risk = subst (λ (m : ℕ). SideReady m (y .risk)) one (next-ready risk-side low high (g .risk) (e .risk));
+            hazard = subst (λ (m : ℕ). SideReady m (y .hazard)) one (next-ready hazard-side low high (g .hazard) (e .hazard));
+          };
+          risk = next-is risk-side low high (g .risk) (e .risk);
+          hazard = next-is hazard-side low high (g .hazard) (e .hazard);
+        }
+
+    pub addable : {n : ℕ} {x : Runs} → n ≤ 121 → RunsReady (632 + n) x → TotalSize a → TotalSize b → Addable x w a b
+    addable l g ta tb = record {
+      c = concentration;
+      risk-run = ready-size l (g .risk);
+      hazard-run = ready-size l (g .hazard);
+      risk-lower = k .risk-size;
+      hazard-lower = k .hazard-size;
+      risk-upper = ta;
+      hazard-upper = tb;
+    }
+
+-- ---- the list call
+pub workable : {p : Plan} {t : State} {r : Contaminant} → Advancing p t r → Workable p r
+workable h = record { ready = h .good .ready; passed = h .good .passed (h .accepted); contaminant = h .fits }
+
+module _ {p : Plan} {t : State} {r : Contaminant} (h : Advancing p t r) where
+  accepted-answer : (u : State) (rs : List Contaminant) → numberOf (u .refusal) ≡ 0 → answerFrom p u rs ≡ steps (p .scenario) (p .medium) rs (u .place) (u .previous) (runningOf (u .runs .risk)) (runningOf (u .runs .hazard))
+  unfolding answerFrom
+  accepted-answer u rs e = rw (eq-eqb (numberOf (u .refusal)) 0 e)
+
+  steps-next : (rs : List Contaminant) → hasPathway (p .scenario) (p .medium) r 0 || hasPathway (p .scenario) (p .medium) r 1 ≡ true →
+      steps (p .scenario) (p .medium) (r ∷ rs) (t .place) (t .previous) (runningOf (t .runs .risk)) (runningOf (t .runs .hazard)) ≡
+      steps (p .scenario) (p .medium) rs (t .place + 1) (r .id) (next (p .scenario) (p .medium) 0 (runningOf (t .runs .risk)) r) (next (p .scenario) (p .medium) 1 (runningOf (t .runs .hazard)) r)
+  unfolding steps
+  steps-next rs e = rw (h .fits, h .rising, e)
+
+  module _ {y : Runs} (n : NextRuns (p .scenario) (p .medium) r (t .place) (t .runs) y) where
+    moved-answer : (rs : List Contaminant) → hasPathway (p .scenario) (p .medium) r 0 || hasPathway (p .scenario) (p .medium) r 1 ≡ true → answerFrom p t (r ∷ rs) ≡ answerFrom p (movedOf t (r .id) y) rs
+    moved-answer rs e =
+        accepted-answer t (r ∷ rs) (h .accepted) ∙ steps-next rs e ∙
+        ap (λ (x : Running). steps (p .scenario) (p .medium) rs (t .place + 1) (r .id) x (next (p .scenario) (p .medium) 1 (runningOf (t .runs .hazard)) r)) (sym (n .risk)) ∙
+        ap (λ (x : Running). steps (p .scenario) (p .medium) rs (t .place + 1) (r .id) (runningOf (y .risk)) x) (sym (n .hazard)) ∙
+        sym (accepted-answer (movedOf t (r .id) y) rs (h .accepted))
+
+    pub moved-steps : {u : State} → hasPathway (p .scenario) (p .medium) r 0 || hasPathway (p .scenario) (p .medium) r 1 ≡ true → u ≡ movedOf t (r .id) y → Stepped p t r u
+    moved-steps e k = subst (Stepped p t r) (sym k)
+        (record {
+          good = record { ready = h .good .ready; place = omega (arith, h .place); runs = n .ready; passed = h .good .passed };
+          same = λ rs l. moved-answer rs e;
+          room = λ rs l. record { room = λ m. omega (arith, l .room m) };
+        })

@@ -8,6 +8,7 @@ use Rattle.rounding.specs.declared.Direction.the-variants.{Down, Up}
 use Rattle.decimal.specs.declared.Decimal.{Decimal}
 use Rattle.decimal.specs.Decimal.{zeroOf, workingOf}
 use Rattle.outcome.specs.declared.Refusal.{Refusal}
+use Rattle.outcome.specs.Outcome.{numberOf}
 use Rattle.outcome.specs.declared.Refusal.the-variants.{Accepted, Length, Field, Factor, Order, Pathway, Range}
 use Rattle.inputs.specs.declared.Scenario.{Scenario}
 use Rattle.inputs.specs.declared.Contaminant.{Contaminant}
@@ -52,6 +53,10 @@ sideSums s side t = record { lower = t .lower; upper = t .upper; verdict = verdi
 abbrev pub accepted : Scenario → Running → Running → SumsAnswer
 accepted s risk hazard = record { refusal = Accepted; block = 0; risk = sideSums s 0 risk; hazard = sideSums s 1 hazard }
 
+-- ---- before the first of n records: 1 for a list of none or over 120, then 4 and 6
+abbrev pub firstRefusal : Scenario → ℕ → ℕ → Refusal
+firstRefusal s medium n = cond (leb 1 n && leb n 120) (cond (scenarioFits s medium) (cond (lacksFactor s) Factor Accepted) Field) Length
+
 -- ---- record by record, the n-th counting as block n: 4, 7, 8, 9
 unfoldable pub walk : Scenario → ℕ → List Contaminant → ℕ → ℕ → Running → Running → SumsAnswer
 walk s medium [] n before risk hazard = accepted s risk hazard
@@ -65,11 +70,9 @@ walk s medium (r ∷ rs) n before risk hazard =
     (refused Pathway n)))
     (refused Field n)
 
--- 1 for a list of none or over 120; then 4 and 6 in block 0
+-- 1, 4 and 6 in block 0, then the records
 unfoldable pub sumsOf : Scenario → ℕ → List Contaminant → SumsAnswer
 sumsOf s medium rs =
-    cond (leb 1 (length rs) && leb (length rs) 120)
-    (cond (scenarioFits s medium)
-    (cond (lacksFactor s) (refused Factor 0) (walk s medium rs 1 0 start start))
-    (refused Field 0))
-    (refused Length 0)
+    cond (eqb (numberOf (firstRefusal s medium (length rs))) 0)
+    (walk s medium rs 1 0 start start)
+    (refused (firstRefusal s medium (length rs)) 0)

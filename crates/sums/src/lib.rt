@@ -1,30 +1,26 @@
 // Sums of risk and hazard over a list of contaminants, and the verdict of each side.
+pub mod presence;
+pub mod shares;
+
+use crate::presence::has_pathway;
+use crate::shares::Plan;
+use crate::shares::Runs;
+use crate::shares::SideRun;
+use crate::shares::accepted;
 use decimal::Decimal;
 use inputs::Contaminant;
-use inputs::Scenario;
-use inputs::both;
 use inputs::contaminant_fits;
-use inputs::lacks_factor;
-use inputs::scenario_fits;
 use outcome::Refusal;
 use rounding::Biased;
 use rounding::Direction;
-use terms::numbers::Factors;
 use terms::pathways::total;
-use terms::prepared::Prepared;
 ghost use mathlib.Core.Path.{_≡_};
-ghost use Prim.Native.Nat.{_≤_};
-ghost use mathlib.Core.Bool.{true, _||_};
 ghost use mathlib.Core.List.{[]};
-ghost use lib.Dec.{eqb};
-ghost use Rattle.outcome.specs.Outcome.{numberOf};
-ghost use Rattle.inputs.specs.BuiltIn.{blank};
-ghost use Rattle.terms.specs.Stands.{Input};
-ghost use Rattle.inputs.specs.Inputs.{scenarioDecimals};
-ghost use Rattle.inputs.specs.Valid.{allValid};
-ghost use Rattle.terms.specs.Side.{OneOrTwo, TotalSize};
+ghost use Prim.Native.Nat.{_≤_};
 ghost use Rattle.sums.specs.Verdict.{verdictNumber, verdictOf};
-ghost use Rattle.sums.specs.State.{Good, Started, Stepped, answerFrom, FirstState, refuseOf, movedOf, RunSize, Shared, runRanged, Advancing, sideSumsOf};
+ghost use Rattle.sums.specs.ListCall.{refused as refusedOf};
+ghost use Rattle.sums.specs.Plan.{RunSize, noRuns};
+ghost use Rattle.sums.specs.State.{Good, Stepped, answerFrom, firstOf, refuseOf, movedOf, Advancing, sideSumsOf, reportedOf};
 
 // The verdict of a side. A refused call has none at all.
 pub enum Verdict {
@@ -50,27 +46,14 @@ pub struct SumsAnswer {
     pub hazard: SideSums,
 }
 
-// The running sums of a side, as numbers, and whether a contaminant had a pathway there.
-pub struct SideRun {
-    pub lower: Biased,
-    pub upper: Biased,
-    pub any: bool,
-}
-
-// The state of the list call between two records: the scenario and the medium with what is worked out of them once;
-// the place of the next record and the id before it; a refusal and its block, once there is one; the running sums.
+// The state of the list call between two records: the place of the next record and the id before it; a refusal and its
+// block, once there is one; the running sums.
 pub struct State {
-    pub scenario: Scenario,
-    pub medium: u32,
-    pub factors: Factors,
-    pub up: Prepared,
-    pub down: Prepared,
     pub place: u32,
     pub previous: u32,
     pub refusal: Refusal,
     pub block: u32,
-    pub risk: SideRun,
-    pub hazard: SideRun,
+    pub runs: Runs,
 }
 
 // The number of a verdict.
@@ -102,17 +85,9 @@ pub fn judge(any: bool, lower: Decimal, upper: Decimal, target: Decimal) -> Verd
     Verdict::NoPathway
 }
 
-// Whether a call has not been refused.
-fn accepted(r: Refusal) -> bool
-    ensures { λ b. ⌜ b ≡ eqb (numberOf r) 0 ⌝ }
-{
-    outcome::number(r) == 0
-}
-
-// The state before the first record, for a scenario and a medium that keep their rules.
-fn first_state(s: Scenario, medium: u32, refusal: Refusal) -> State
-    requires { ⌜ (allValid (scenarioDecimals s) ≡ true) × OneOrTwo medium ⌝ }
-    ensures { λ t. ⌜ FirstState s medium refusal t ⌝ }
+// The running sums before the first record.
+pub fn no_runs() -> Runs
+    ensures { λ x. ⌜ x ≡ noRuns ⌝ }
 {
     let zero = Biased { m: 0, x: 2992 };
     let none = SideRun {
@@ -120,158 +95,73 @@ fn first_state(s: Scenario, medium: u32, refusal: Refusal) -> State
         upper: zero,
         any: false,
     };
-    let f = terms::numbers::scenario_numbers(s);
-    State {
-        scenario: s,
-        medium,
-        factors: f,
-        up: terms::prepared::prepare(f, Direction::Up),
-        down: terms::prepared::prepare(f, Direction::Down),
-        place: 1,
-        previous: 0,
-        refusal,
-        block: 0,
+    Runs {
         risk: none,
         hazard: none,
     }
 }
 
-// A state that is refused before the first record.
-fn refused_state(refusal: Refusal) -> State
-    ensures { λ t. ⌜ FirstState blank 1 refusal t ⌝ }
+// The state before the first record.
+pub fn first(p: Plan) -> State
+    ensures { λ t. ⌜ t ≡ firstOf p ⌝ }
 {
-    first_state(Scenario::BLANK, 1, refusal)
-}
-
-// The state before the first of n records: refusals 1, 4 and 6.
-pub fn start(s: Scenario, medium: u32, n: usize) -> State
-    ensures { λ t. ⌜ Started s medium n t ⌝ }
-{
-    if n == 0 {
-        return refused_state(Refusal::Length);
+    let refusal = p.refusal;
+    State {
+        place: 1,
+        previous: 0,
+        refusal,
+        block: 0,
+        runs: no_runs(),
     }
-    if 120 < n {
-        return refused_state(Refusal::Length);
-    }
-    if scenario_fits(s, medium) {
-        if lacks_factor(s) {
-            return refused_state(Refusal::Factor);
-        }
-        return first_state(s, medium, Refusal::Accepted);
-    }
-    refused_state(Refusal::Field)
 }
 
 // The same state with a refusal in the block of its next record.
 fn refuse(t: State, refusal: Refusal) -> State
     ensures { λ u. ⌜ u ≡ refuseOf t refusal ⌝ }
 {
-    let scenario = t.scenario;
-    let factors = t.factors;
-    let up = t.up;
-    let down = t.down;
-    let risk = t.risk;
-    let hazard = t.hazard;
+    let runs = t.runs;
     State {
-        scenario,
-        medium: t.medium,
-        factors,
-        up,
-        down,
         place: t.place,
         previous: t.previous,
         refusal,
         block: t.place,
-        risk,
-        hazard,
+        runs,
     }
 }
 
 // The state after a record: its id and the new sums.
-fn moved(t: State, id: u32, risk: SideRun, hazard: SideRun) -> State
+fn moved(t: State, id: u32, runs: Runs) -> State
     requires { ⌜ t .place ≤ 120 ⌝ }
-    ensures { λ u. ⌜ u ≡ movedOf t id risk hazard ⌝ }
+    ensures { λ u. ⌜ u ≡ movedOf t id runs ⌝ }
 {
-    let scenario = t.scenario;
-    let factors = t.factors;
-    let up = t.up;
-    let down = t.down;
     let refusal = t.refusal;
     State {
-        scenario,
-        medium: t.medium,
-        factors,
-        up,
-        down,
         place: t.place + 1,
         previous: id,
         refusal,
         block: t.block,
-        risk,
-        hazard,
+        runs,
     }
 }
 
-// One step of the running sums of a side: the concentration times the lower and the upper term sum, added down and up.
-fn add_share(x: SideRun, c: Biased, lower: Biased, upper: Biased) -> SideRun
-    requires { ⌜ (Input c × RunSize x) × (TotalSize lower × TotalSize upper) ⌝ }
-    ensures { λ y. ⌜ Shared x c lower upper y ⌝ }
+// The state after a record that keeps its rules and its order: refusal 8, or the new sums.
+fn advance(p: Plan, t: State, r: Contaminant) -> State
+    requires { ⌜ Advancing p t r ⌝ }
+    ensures { λ u. ⌜ Stepped p t r u ⌝ }
 {
-    let small = rounding::product(c, lower, Direction::Down);
-    let great = rounding::product(c, upper, Direction::Up);
-    SideRun {
-        lower: rounding::sum(x.lower, small, Direction::Down),
-        upper: rounding::sum(x.upper, great, Direction::Up),
-        any: either(x.any, upper.m != 0),
-    }
-}
-
-// One test or the other.
-fn either(a: bool, b: bool) -> bool
-    ensures { λ r. ⌜ r ≡ a || b ⌝ }
-{
-    if a {
-        return true;
-    }
-    b
-}
-
-// Whether the exponents of a side's sums are from -999 to 999.
-fn run_ranged(x: SideRun) -> bool
-    ensures { λ b. ⌜ b ≡ runRanged x ⌝ }
-{
-    let lower = both(2000 < x.lower.x, x.lower.x < 4000);
-    let upper = both(2000 < x.upper.x, x.upper.x < 4000);
-    both(lower, upper)
-}
-
-// The state after a record that keeps its rules: refusals 8 and 9, or the new sums.
-fn advance(t: State, r: Contaminant) -> State
-    requires { ⌜ Advancing t r ⌝ }
-    ensures { λ u. ⌜ Stepped t r u ⌝ }
-{
-    let x = terms::numbers::contaminant_numbers(r);
-    let above = terms::pathways::terms_of(t.up, x, t.medium, r.class, Direction::Up);
-    let below = terms::pathways::terms_of(t.down, x, t.medium, r.class, Direction::Down);
-    let a = total(above.risk, Direction::Up);
-    let b = total(above.hazard, Direction::Up);
-    let c = total(below.risk, Direction::Down);
-    let d = total(below.hazard, Direction::Down);
-    if both(a.m == 0, b.m == 0) {
+    if !has_pathway(p.scenario, p.medium, r) {
         return refuse(t, Refusal::Pathway);
     }
-    let risk = add_share(t.risk, x.c, c, a);
-    let hazard = add_share(t.hazard, x.c, d, b);
-    if both(run_ranged(risk), run_ranged(hazard)) {
-        return moved(t, r.id, risk, hazard);
-    }
-    refuse(t, Refusal::Range)
+    let w = shares::work(p, r);
+    let risk = total(w.above.risk, Direction::Up);
+    let hazard = total(w.above.hazard, Direction::Up);
+    moved(t, r.id, shares::add_shares(t.runs, w, risk, hazard))
 }
 
 // The state after one more record. Once a record is refused the state stays as it is.
-pub fn step(t: State, r: Contaminant) -> State
-    requires { ⌜ Good t ⌝ }
-    ensures { λ u. ⌜ Stepped t r u ⌝ }
+pub fn step(p: Plan, t: State, r: Contaminant) -> State
+    requires { ⌜ Good p t ⌝ }
+    ensures { λ u. ⌜ Stepped p t r u ⌝ }
 {
     let refusal = t.refusal;
     if accepted(refusal) {
@@ -282,40 +172,11 @@ pub fn step(t: State, r: Contaminant) -> State
             if r.id <= t.previous {
                 return refuse(t, Refusal::Order);
             }
-            return advance(t, r);
+            return advance(p, t, r);
         }
         return refuse(t, Refusal::Field);
     }
     t
-}
-
-// The answer of the state after the last record.
-pub fn finish(t: State) -> SumsAnswer
-    requires { ⌜ Good t ⌝ }
-    ensures { λ a. ⌜ a ≡ answerFrom t [] ⌝ }
-{
-    let refusal = t.refusal;
-    let zero = Decimal { m: 0, e: 0 };
-    let none = SideSums {
-        lower: zero,
-        upper: zero,
-        verdict: Verdict::Unset,
-    };
-    if accepted(refusal) {
-        let s = t.scenario;
-        return SumsAnswer {
-            refusal: Refusal::Accepted,
-            block: 0,
-            risk: side_sums(t.risk, s.tr),
-            hazard: side_sums(t.hazard, s.thi),
-        };
-    }
-    SumsAnswer {
-        refusal,
-        block: t.block,
-        risk: none,
-        hazard: none,
-    }
 }
 
 // The sums of a side as decimals, with the verdict.
@@ -330,4 +191,48 @@ fn side_sums(x: SideRun, target: Decimal) -> SideSums
         upper,
         verdict: judge(x.any, lower, upper, target.working()),
     }
+}
+
+// The answer of a call that is accepted: the sums of both sides.
+pub fn reported(p: Plan, x: Runs) -> SumsAnswer
+    requires { ⌜ RunSize (x .risk) × RunSize (x .hazard) ⌝ }
+    ensures { λ a. ⌜ a ≡ reportedOf (p .scenario) x ⌝ }
+{
+    let s = p.scenario;
+    SumsAnswer {
+        refusal: Refusal::Accepted,
+        block: 0,
+        risk: side_sums(x.risk, s.tr),
+        hazard: side_sums(x.hazard, s.thi),
+    }
+}
+
+// The answer of a call that is refused: number, block, zero decimals and no verdict.
+pub fn refused(refusal: Refusal, block: u32) -> SumsAnswer
+    ensures { λ a. ⌜ a ≡ refusedOf refusal block ⌝ }
+{
+    let zero = Decimal { m: 0, e: 0 };
+    let none = SideSums {
+        lower: zero,
+        upper: zero,
+        verdict: Verdict::Unset,
+    };
+    SumsAnswer {
+        refusal,
+        block,
+        risk: none,
+        hazard: none,
+    }
+}
+
+// The answer of the state after the last record.
+pub fn finish(p: Plan, t: State) -> SumsAnswer
+    requires { ⌜ Good p t ⌝ }
+    ensures { λ a. ⌜ a ≡ answerFrom p t [] ⌝ }
+{
+    let refusal = t.refusal;
+    if accepted(refusal) {
+        return reported(p, t.runs);
+    }
+    refused(refusal, t.block)
 }

@@ -1,0 +1,24 @@
+-- `sums::presence::water_chemical` meets its contract: it is what the table says. Assumes nothing.
+use Rattle.sums.proofs.KnownValues.{water-chemical}
+use borrow.Author.Needs.{needs}
+use Rattle.sums.proofs.presence.water_chemical.Statement.{statement}
+use Rattle.sums.proofs.presence.water_chemical.Tie as tie
+
+both-requires : tie.Need-both-requires
+both-requires c κs = search needs
+
+both-requires-2 : tie.Need-both-requires-2
+both-requires-2 c κs = search needs
+
+either-requires : tie.Need-either-requires
+either-requires c κs = search needs
+
+chemical-requires : tie.Need-chemical-requires
+chemical-requires c κs = search needs
+
+returns : tie.Need-returns
+returns c = cc (water-chemical (c .before .before .before .before .before .before .before .before .before .args .s) (c .before .before .before .before .before .before .before .before .before .args .r))
+
+pub water-chemical-spec : {M : Type 1} → statement M
+water-chemical-spec =
+    tie.close (tie.spec both-requires both-requires-2 either-requires chemical-requires returns)

@@ -1,0 +1,116 @@
+-- What a scenario gives to every record, and what a record adds to the running sums: what the functions of `shares` promise.
+use mathlib.Core.Path.{_≡_}
+use mathlib.Core.Bool.{Bool, true, false, not, _||_}
+use Prim.Native.Nat.{ℕ, _≤_, _<_}
+use lib.Dec.{eqb}
+use Rattle.rounding.specs.declared.Direction.the-variants.{Down, Up}
+use Rattle.rounding.specs.declared.Biased.{Biased}
+use Rattle.rounding.specs.Operations.{productOf, sumOf}
+use Rattle.decimal.specs.Decimal.{decimalOf}
+use Rattle.outcome.specs.declared.Refusal.{Refusal}
+use Rattle.outcome.specs.Outcome.{numberOf}
+use Rattle.inputs.specs.declared.Scenario.{Scenario}
+use Rattle.inputs.specs.declared.Contaminant.{Contaminant}
+use Rattle.inputs.specs.Inputs.{scenarioDecimals}
+use Rattle.inputs.specs.Valid.{allValid}
+use Rattle.inputs.specs.Rules.{scenarioFits, lacksFactor, contaminantFits}
+use Rattle.terms.specs.declared.numbers.Toxicity.{Toxicity}
+use Rattle.terms.specs.declared.pathways.Side.{Side}
+use Rattle.terms.specs.declared.pathways.Terms.{Terms}
+use Rattle.terms.specs.Stands.{Stands, FactorsFor, ToxicityFor, Input}
+use Rattle.terms.specs.Prepared.{PreparedFor}
+use Rattle.terms.specs.Side.{OneOrTwo, TermsFor, WideSide, TotalSize}
+use Rattle.sums.specs.declared.shares.Plan.{Plan}
+use Rattle.sums.specs.declared.shares.Worked.{Worked}
+use Rattle.sums.specs.declared.shares.SideRun.{SideRun}
+use Rattle.sums.specs.declared.shares.Runs.{Runs}
+use Rattle.sums.specs.Share.{Running}
+use Rattle.sums.specs.ListCall.{firstRefusal}
+
+-- ---- the plan: a scenario and a medium with the numbers worked out of them
+pub record PlanReady (p : Plan) : Type 0 where
+  pub valid : allValid (scenarioDecimals (p .scenario)) ≡ true
+  pub media : OneOrTwo (p .medium)
+  pub factors : FactorsFor (p .scenario) (p .up .factors)
+  pub up : PreparedFor Up (p .up .factors) (p .up)
+  pub down : PreparedFor Down (p .up .factors) (p .down)
+
+-- its scenario and its medium passed refusals 4 and 6
+pub record PlanFits (p : Plan) : Type 0 where
+  pub fits : scenarioFits (p .scenario) (p .medium) ≡ true
+  pub known : lacksFactor (p .scenario) ≡ false
+
+pub record Planned (s : Scenario) (medium : ℕ) (refusal : Refusal) (p : Plan) : Type 0 where
+  pub ready : PlanReady p
+  pub scenario : p .scenario ≡ s
+  pub media : p .medium ≡ medium
+  pub refused : p .refusal ≡ refusal
+
+-- the plan for n records
+pub record Begun (s : Scenario) (medium n : ℕ) (p : Plan) : Type 0 where
+  pub ready : PlanReady p
+  pub refused : p .refusal ≡ firstRefusal s medium n
+  pub scenario : numberOf (p .refusal) ≡ 0 → p .scenario ≡ s
+  pub media : numberOf (p .refusal) ≡ 0 → p .medium ≡ medium
+
+-- ---- the terms of a record that keeps its rules
+pub record Workable (p : Plan) (r : Contaminant) : Type 0 where
+  pub ready : PlanReady p
+  pub passed : PlanFits p
+  pub contaminant : contaminantFits r ≡ true
+
+abbrev pub totalFrom : Side → Biased
+totalFrom s = sumOf Down (sumOf Down (s .first) (s .second)) (s .third)
+
+pub record WorkedFor (p : Plan) (r : Contaminant) (w : Worked) : Type 0 where
+  pub numbers : Toxicity
+  pub toxicity : ToxicityFor r numbers
+  pub below : Terms
+  pub upper-terms : TermsFor Up (p .up .factors) numbers (p .medium) (r .class) (w .above)
+  pub lower-terms : TermsFor Down (p .down .factors) numbers (p .medium) (r .class) below
+  pub risk : w .risk ≡ totalFrom (below .risk)
+  pub hazard : w .hazard ≡ totalFrom (below .hazard)
+  pub risk-size : TotalSize (w .risk)
+  pub hazard-size : TotalSize (w .hazard)
+  pub c : w .c ≡ numbers .c
+
+-- ---- the running sums, as numbers
+abbrev pub noRuns : Runs
+noRuns = record {
+  risk = record { lower = record { m = 0; x = 2992 }; upper = record { m = 0; x = 2992 }; any = false };
+  hazard = record { lower = record { m = 0; x = 2992 }; upper = record { m = 0; x = 2992 }; any = false };
+}
+
+-- what they stand for
+abbrev pub runningOf : SideRun → Running
+runningOf x = record { lower = decimalOf (x .lower); upper = decimalOf (x .upper); any = x .any }
+
+-- sums that leave room for a share
+pub record NumberSize (r : Biased) : Type 0 where
+  pub most : r .m < 1000000000
+  pub low : 2239 ≤ r .x
+  pub high : r .x ≤ 3745
+
+pub record RunSize (x : SideRun) : Type 0 where
+  pub lower : NumberSize (x .lower)
+  pub upper : NumberSize (x .upper)
+
+-- one share on each side
+pub record Shared (x : SideRun) (c lower upper : Biased) (y : SideRun) : Type 0 where
+  pub below : y .lower ≡ sumOf Down (x .lower) (productOf Down c lower)
+  pub above : y .upper ≡ sumOf Up (x .upper) (productOf Up c upper)
+  pub some : y .any ≡ x .any || not (eqb (upper .m) 0)
+
+-- a and b are the sums of the upper terms
+pub record Addable (x : Runs) (w : Worked) (a b : Biased) : Type 0 where
+  pub c : Input (w .c)
+  pub risk-run : RunSize (x .risk)
+  pub hazard-run : RunSize (x .hazard)
+  pub risk-lower : TotalSize (w .risk)
+  pub hazard-lower : TotalSize (w .hazard)
+  pub risk-upper : TotalSize a
+  pub hazard-upper : TotalSize b
+
+pub record Added (x : Runs) (w : Worked) (a b : Biased) (y : Runs) : Type 0 where
+  pub risk : Shared (x .risk) (w .c) (w .risk) a (y .risk)
+  pub hazard : Shared (x .hazard) (w .c) (w .hazard) b (y .hazard)

@@ -1,0 +1,47 @@
+-- Whether a pathway is there, by which decimals are zero alone: no term is worked out.
+use mathlib.Core.Path.{_≡_}
+use mathlib.Core.Bool.{Bool, true, false, not, _&&_, _||_}
+use mathlib.Core.List.{List, [], _∷_, map}
+use Prim.Native.Nat.{ℕ}
+use lib.Dec.{eqb}
+use lib.ListN.{getD}
+use Rattle.decimal.specs.declared.Decimal.{Decimal}
+use Rattle.inputs.specs.declared.Scenario.{Scenario}
+use Rattle.inputs.specs.declared.Contaminant.{Contaminant}
+use Rattle.inputs.specs.Inputs.{contaminantDecimals}
+use Rattle.inputs.specs.Rules.{scenarioFits, lacksFactor, contaminantFits}
+use Rattle.terms.specs.Formula.{Formula, pathwaysOf}
+use Rattle.terms.specs.Term.{hasFactors}
+
+abbrev pub knownOf : Decimal → Bool
+knownOf d = not (eqb (d .m) 0)
+
+-- which values are known, in the order of the table's names, once refusal 6 is passed: EF, ED, BW and AT are, and the constants
+abbrev pub knownValues : Scenario → Contaminant → List Bool
+knownValues s r =
+    (knownOf (r .vf) || knownOf (s .pef)) ∷ (true ∷ (true ∷ (true ∷ (true ∷ (true ∷ (true ∷ (true ∷ (true ∷ (true ∷ (true ∷
+    (knownOf (s .ir) ∷ (knownOf (s .ira) ∷ (knownOf (s .pef) ∷ (knownOf (s .et) ∷ (knownOf (s .rf) ∷ (knownOf (s .sa) ∷ (knownOf (s .tr) ∷ (knownOf (s .thi) ∷
+    map knownOf (contaminantDecimals r)))))))))))))))))))
+
+-- as `known`, `presentOf` and `anyPathway`, over what is known of each name
+abbrev pub allKnown : List Bool → List ℕ → Bool
+allKnown ks [] = true
+allKnown ks (n ∷ ns) = getD ks n false && allKnown ks ns
+
+abbrev pub someKnown : List Bool → List Formula → Bool
+someKnown ks [] = false
+someKnown ks (f ∷ fs) = hasFactors (f .before) && (allKnown ks (f .before) && allKnown ks (f .after)) || someKnown ks fs
+
+-- a pathway on either side
+abbrev pub eitherSide : List Bool → ℕ → ℕ → Bool
+eitherSide ks medium class = someKnown ks (pathwaysOf medium class 0) || someKnown ks (pathwaysOf medium class 1)
+
+-- a chemical, by what is known of the ways into the body
+abbrev pub chemicalOf : Contaminant → Bool → Bool → Bool
+chemicalOf r swallowed breathed = swallowed && (knownOf (r .sfo) || knownOf (r .rfdo)) || breathed && (knownOf (r .sfi) || knownOf (r .rfdi))
+
+-- inputs that passed conditions 4 and 6
+pub record Checked (s : Scenario) (medium : ℕ) (r : Contaminant) : Type 0 where
+  pub scenario : scenarioFits s medium ≡ true
+  pub factors : lacksFactor s ≡ false
+  pub contaminant : contaminantFits r ≡ true

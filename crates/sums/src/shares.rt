@@ -1,0 +1,147 @@
+// What one record adds to the running sums of both sides, from what a scenario in a medium gives once to every record.
+use crate::presence::either;
+use inputs::Contaminant;
+use inputs::Scenario;
+use inputs::lacks_factor;
+use inputs::scenario_fits;
+use outcome::Refusal;
+use rounding::Biased;
+use rounding::Direction;
+use terms::pathways::Terms;
+use terms::pathways::total;
+use terms::prepared::Prepared;
+ghost use mathlib.Core.Path.{_≡_};
+ghost use mathlib.Core.Bool.{true};
+ghost use lib.Dec.{eqb};
+ghost use Rattle.outcome.specs.Outcome.{numberOf};
+ghost use Rattle.inputs.specs.Inputs.{scenarioDecimals};
+ghost use Rattle.inputs.specs.Valid.{allValid};
+ghost use Rattle.terms.specs.Side.{OneOrTwo, TotalSize};
+ghost use Rattle.terms.specs.Stands.{Input};
+ghost use Rattle.sums.specs.ListCall.{firstRefusal};
+ghost use Rattle.sums.specs.Plan.{Planned, Begun, Workable, WorkedFor, RunSize, Shared, Addable, Added};
+
+// What does not change from record to record: the scenario, the medium, and what is worked out of them in both
+// directions; and the refusal that comes before the first record.
+pub struct Plan {
+    pub scenario: Scenario,
+    pub medium: u32,
+    pub up: Prepared,
+    pub down: Prepared,
+    pub refusal: Refusal,
+}
+
+// A record's upper terms, the sums of its lower terms on each side, and its concentration.
+pub struct Worked {
+    pub above: Terms,
+    pub risk: Biased,
+    pub hazard: Biased,
+    pub c: Biased,
+}
+
+// The running sums of a side, as numbers, and whether a contaminant had a pathway there.
+pub struct SideRun {
+    pub lower: Biased,
+    pub upper: Biased,
+    pub any: bool,
+}
+
+// The running sums of both sides.
+pub struct Runs {
+    pub risk: SideRun,
+    pub hazard: SideRun,
+}
+
+// The refusal before the first of n records: 1 for their number, 4 and 6 for the scenario and the medium.
+fn first_refusal(s: Scenario, medium: u32, n: usize) -> Refusal
+    ensures { λ r. ⌜ r ≡ firstRefusal s medium n ⌝ }
+{
+    if n == 0 {
+        return Refusal::Length;
+    }
+    if 120 < n {
+        return Refusal::Length;
+    }
+    if !scenario_fits(s, medium) {
+        return Refusal::Field;
+    }
+    if lacks_factor(s) {
+        return Refusal::Factor;
+    }
+    Refusal::Accepted
+}
+
+// Whether a call has not been refused.
+pub fn accepted(r: Refusal) -> bool
+    ensures { λ b. ⌜ b ≡ eqb (numberOf r) 0 ⌝ }
+{
+    outcome::number(r) == 0
+}
+
+// The plan of a scenario and a medium that keep their rules.
+fn planned(s: Scenario, medium: u32, refusal: Refusal) -> Plan
+    requires { ⌜ (allValid (scenarioDecimals s) ≡ true) × OneOrTwo medium ⌝ }
+    ensures { λ p. ⌜ Planned s medium refusal p ⌝ }
+{
+    let f = terms::numbers::scenario_numbers(s);
+    Plan {
+        scenario: s,
+        medium,
+        up: terms::prepared::prepare(f, Direction::Up),
+        down: terms::prepared::prepare(f, Direction::Down),
+        refusal,
+    }
+}
+
+// The plan for n records. One that is refused is of no use beyond its refusal, and holds the blank scenario.
+pub fn begin(s: Scenario, medium: u32, n: usize) -> Plan
+    ensures { λ p. ⌜ Begun s medium n p ⌝ }
+{
+    let refusal = first_refusal(s, medium, n);
+    if accepted(refusal) {
+        return planned(s, medium, refusal);
+    }
+    planned(Scenario::BLANK, 1, refusal)
+}
+
+// The terms of a record.
+pub fn work(p: Plan, r: Contaminant) -> Worked
+    requires { ⌜ Workable p r ⌝ }
+    ensures { λ w. ⌜ WorkedFor p r w ⌝ }
+{
+    let x = terms::numbers::contaminant_numbers(r);
+    let above = terms::pathways::terms_of(p.up, x, p.medium, r.class, Direction::Up);
+    let below = terms::pathways::terms_of(p.down, x, p.medium, r.class, Direction::Down);
+    let c = x.c;
+    Worked {
+        above,
+        risk: total(below.risk, Direction::Down),
+        hazard: total(below.hazard, Direction::Down),
+        c,
+    }
+}
+
+// One step of the running sums of a side: the concentration times the lower and the upper term sum, added down and up.
+fn add_share(x: SideRun, c: Biased, lower: Biased, upper: Biased) -> SideRun
+    requires { ⌜ (Input c × RunSize x) × (TotalSize lower × TotalSize upper) ⌝ }
+    ensures { λ y. ⌜ Shared x c lower upper y ⌝ }
+{
+    let small = rounding::product(c, lower, Direction::Down);
+    let great = rounding::product(c, upper, Direction::Up);
+    SideRun {
+        lower: rounding::sum(x.lower, small, Direction::Down),
+        upper: rounding::sum(x.upper, great, Direction::Up),
+        any: either(x.any, upper.m != 0),
+    }
+}
+
+// The running sums after a record, from its terms and the sums of its upper terms.
+pub fn add_shares(x: Runs, w: Worked, risk: Biased, hazard: Biased) -> Runs
+    requires { ⌜ Addable x w risk hazard ⌝ }
+    ensures { λ y. ⌜ Added x w risk hazard y ⌝ }
+{
+    Runs {
+        risk: add_share(x.risk, w.c, w.risk, risk),
+        hazard: add_share(x.hazard, w.c, w.hazard, hazard),
+    }
+}
