@@ -113,7 +113,7 @@ fn header_unused(part: &[u8]) -> bool
 }
 
 // The contaminant in the 504 bytes between kind and last word.
-fn get_contaminant(part: &[u8]) -> Contaminant
+pub fn get_contaminant(part: &[u8]) -> Contaminant
     requires { ⌜ 504 ≤ length (now part) ⌝ }
     ensures { λ r. ⌜ r ≡ contaminantAt (now (part .entry)) 4 ⌝ }
 {

@@ -268,6 +268,18 @@ skip-fair dir {j} {k} {v} {w} h l u f (next {d} {q} {ds} g gs) =
     fair-most dir {j = 1 + j + length ds} {v = v + 1 + length ds} (omega arith) (omega arith)
     (skip-fair dir {j = 1 + j} {v = v + 1} (omega arith) (omega arith) (omega arith) (fair-skip dir (omega arith) f (fair-most dir h l g)) gs)
 
+-- ---- a decimal is worth nothing exactly when its m is zero
+pub given-zero : (d : Decimal) → eqb (given d .top) 0 ≡ eqb (d .m) 0
+unfolding given
+given-zero d = cases (eqb (d .m) 0) refl
+  where
+    cases : (t : Bool) → eqb (d .m) 0 ≡ t → eqb (d .m * 10 ^ raise (d .e)) 0 ≡ t
+    cases true e = rw (eqb-true (d .m) 0 e, zero-mul (10 ^ raise (d .e)))
+    cases false e =
+        let z = eqb-false (d .m) 0 e in
+        let p = mul-pos {m = d .m} {n = 10 ^ raise (d .e)} (omega (arith, z)) (pow-ten-pos (raise (d .e))) in
+        ne-eqb (d .m * 10 ^ raise (d .e)) 0 (omega arith)
+
 -- ---- an input decimal's working form stands for it, with no rounding: m below 10^9 and e from -20 to 20
 pub working-fair : (dir : Direction) (d : Decimal) → d .m < 1000000000 → 2980 ≤ raised (d .e) → raised (d .e) ≤ 3020 → Fair dir 0 28 (workingOf d) (given d)
 unfolding given

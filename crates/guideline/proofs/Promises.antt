@@ -2,24 +2,21 @@
 use mathlib.Core.Path.{_≡_, refl, sym, ap, subst, _∙_}
 use mathlib.Core.Bool.{Bool, true, false, false≢true, cond, not, _&&_, _||_}
 use mathlib.Core.List.{List, [], _∷_, map}
-use Prim.Native.Nat.{ℕ, zero, suc, _+_, _*_, _^_, _≤_, _<_}
-use native.Mathlib.Nat.{mul-pos}
+use Prim.Native.Nat.{ℕ, zero, suc, _+_, _*_, _≤_, _<_}
 use native.Mathlib.Omega.{arith}
 use lib.Dec.{eqb, lit<, lit≤}
 use lib.ListN.{length, getD}
-use borrow.Author.Tests.{eqb-true, eqb-false, ne-eqb, not-false}
+use borrow.Author.Tests.{eqb-true, ne-eqb, not-false}
 use Rattle.rounding.specs.declared.Direction.{Direction}
 use Rattle.rounding.specs.declared.Direction.the-variants.{Down, Up}
 use Rattle.rounding.specs.Within.{Within}
 use Rattle.rounding.specs.Biased.{one}
 use Rattle.rounding.proofs.Distances.{parts}
-use Rattle.rounding.proofs.Greatest.{pow-ten-pos}
 use Rattle.decimal.specs.declared.Decimal.{Decimal}
-use Rattle.decimal.specs.Exponent.{raise}
 use Rattle.decimal.specs.Decimal.{zeroOf, valueOf, divOf, workingOf}
 use Rattle.decimal.specs.Fraction.{Fraction, given, times, over, AtMost}
 use Rattle.decimal.proofs.Laws.{div-zero}
-use Rattle.decimal.proofs.Approximation.{Sized, Approx, Fair, approx-div, fair-most, fair-zero, fair-there}
+use Rattle.decimal.proofs.Approximation.{Sized, Approx, Fair, approx-div, fair-most, fair-zero, fair-there, given-zero}
 use Rattle.decimal.proofs.Approximation.Fair.{none, some}
 use Rattle.outcome.specs.declared.Refusal.{Refusal}
 use Rattle.outcome.specs.declared.Refusal.the-variants.{Field, Factor, Pathway, Range}
@@ -104,17 +101,13 @@ module _ (s : Scenario) (medium : ℕ) (r : Contaminant) (a : Accepted s medium 
   total-there side h = sym (ap not (fair-zero (total-fairly side h))) ∙ present-total Up vs qs reps (pathways side) (table-sound medium (r .class) side) (three-pathways medium (r .class) side (a .media) (a .class) h)
 
   -- the targets
-  given-some : (d : Decimal) → eqb (d .m) 0 ≡ false → eqb (given d .top) 0 ≡ false
-  unfolding given
-  given-some d h = let z = eqb-false (d .m) 0 h in let p = mul-pos {m = d .m} {n = 10 ^ raise (d .e)} (omega (arith, z)) (pow-ten-pos (raise (d .e))) in ne-eqb (d .m * 10 ^ raise (d .e)) 0 (omega arith)
-
   risk-target : Approx Down 0 28 (look vs TR) (given (s .tr))
   unfolding valuesOf exactValues derived
-  risk-target = fair-there (reps .other TR refl) (given-some (s .tr) (a .risk-target))
+  risk-target = fair-there (reps .other TR refl) (given-zero (s .tr) ∙ a .risk-target)
 
   hazard-target : Approx Down 0 28 (look vs THI) (given (s .thi))
   unfolding valuesOf exactValues derived
-  hazard-target = fair-there (reps .other THI refl) (given-some (s .thi) (a .hazard-target))
+  hazard-target = fair-there (reps .other THI refl) (given-zero (s .thi) ∙ a .hazard-target)
 
   abbrev pub sideValues : ℕ → Decimal
   sideValues zero = look vs TR

@@ -111,10 +111,10 @@ module _ {s : Scenario} {medium : ℕ} {r : Contaminant} {f : Factors} {p : Prep
   pub hazard-column : ColumnStands vs (look vs THI) (pathwaysOf medium (r .class) 1) y
   hazard-column = column-stands vs (pathwaysOf medium (r .class) 1) (k .hazard) hazard-three (hazard-terms (h .terms)) (f .thi) (look vs THI) y hazard-target (h .hazard)
 
-  any-risk : not (eqb (x .sum .m) 0) ≡ anyPathway vs (pathwaysOf medium (r .class) 0)
+  pub any-risk : not (eqb (x .sum .m) 0) ≡ anyPathway vs (pathwaysOf medium (r .class) 0)
   any-risk = ap not (stands-zero (risk-column .sum)) ∙ any-total vs _ (values-of Up s medium r a) (pathwaysOf medium (r .class) 0) (table-sound medium (r .class) 0) risk-three
 
-  any-hazard : not (eqb (y .sum .m) 0) ≡ anyPathway vs (pathwaysOf medium (r .class) 1)
+  pub any-hazard : not (eqb (y .sum .m) 0) ≡ anyPathway vs (pathwaysOf medium (r .class) 1)
   any-hazard = ap not (stands-zero (hazard-column .sum)) ∙ any-total vs _ (values-of Up s medium r a) (pathwaysOf medium (r .class) 1) (table-sound medium (r .class) 1) hazard-three
 
   -- the three ways out

@@ -8,7 +8,7 @@ use Rattle.inputs.specs.declared.Scenario.{Scenario}
 use Rattle.inputs.specs.declared.Contaminant.{Contaminant}
 use Rattle.inputs.specs.Inputs.{scenarioDecimals, contaminantDecimals}
 use Rattle.inputs.specs.Valid.{allValid}
-use Rattle.terms.specs.Side.{OneOrTwo}
+use Rattle.terms.specs.Side.{OneOrTwo, TotalSize}
 use Rattle.guideline.specs.declared.SideGuidelines.{SideGuidelines}
 use Rattle.rounding.specs.declared.Direction.the-variants.{Down, Up}
 use Rattle.rounding.specs.declared.Biased.{Biased}
@@ -18,6 +18,7 @@ use Rattle.guideline.specs.declared.Column.{Column}
 
 pub record ColumnFor (target : Biased) (t : Side) (c : Column) : Type 0 where
   pub sum : c .sum ≡ sumOf Up (sumOf Up (t .first) (t .second)) (t .third)
+  pub size : TotalSize (c .sum)
   pub first : c .first ≡ quotientOf Down target (t .first)
   pub second : c .second ≡ quotientOf Down target (t .second)
   pub third : c .third ≡ quotientOf Down target (t .third)

@@ -63,7 +63,7 @@ fn over(target: Biased, term: Biased) -> Biased
 
 // The eight guidelines, written out in one function that is called from one place: so the compiler keeps the
 // numbers in registers (docs/DECISIONS.md, speed).
-fn columns_of(tr: Biased, thi: Biased, t: Terms) -> Columns
+pub fn columns_of(tr: Biased, thi: Biased, t: Terms) -> Columns
     requires { ⌜ (Wide tr × WideSide (t .risk)) × (Wide thi × WideSide (t .hazard)) ⌝ }
     ensures { λ c. ⌜ ColumnFor tr (t .risk) (c .risk) × ColumnFor thi (t .hazard) (c .hazard) ⌝ }
 {
@@ -106,7 +106,7 @@ fn column_ranged(t: Side, c: Column) -> bool
 }
 
 // The guidelines of a side as decimals.
-fn decimals(c: Column) -> SideGuidelines
+pub fn decimals(c: Column) -> SideGuidelines
     requires { ⌜ PrintableColumn c ⌝ }
     ensures { λ g. ⌜ g ≡ columnDecimals c ⌝ }
 {

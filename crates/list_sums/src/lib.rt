@@ -5,15 +5,16 @@ use sums::SumsAnswer;
 ghost use mathlib.Core.Path.{_≡_};
 ghost use Rattle.sums.specs.ListCall.{sumsOf};
 
-// The answer of a list: the first state, a step for each record in its order, and the answer of the last state.
+// The answer of a list: the plan, the first state, a step for each record in its order, and the answer of the last state.
 pub fn sums_of_list(s: Scenario, medium: u32, list: &[Contaminant]) -> SumsAnswer
     ensures { λ a. ⌜ a ≡ sumsOf s medium (now (list .entry)) ⌝ }
 {
-    let mut t = sums::start(s, medium, list.len());
+    let p = sums::shares::begin(s, medium, list.len());
+    let mut t = sums::first(p);
     let mut i: usize = 0;
     while i < list.len() {
-        t = sums::step(t, list[i]);
+        t = sums::step(p, t, list[i]);
         i += 1;
     }
-    sums::finish(t)
+    sums::finish(p, t)
 }

@@ -1,29 +1,22 @@
 -- A pathway is there exactly when the decimals that it names are known as given. Assumes nothing.
 use mathlib.Core.Path.{_≡_, refl, sym, ap, _∙_}
-use mathlib.Core.Bool.{Bool, true, false, not, _&&_, _||_, and-true, or-false, and-assoc, and-comm, or-assoc, or-comm, and-or-distrib-left, and-or-distrib-right}
+use mathlib.Core.Bool.{Bool, true, not, _&&_, _||_, and-true, or-false, and-assoc, and-comm, or-assoc, or-comm, and-or-distrib-left, and-or-distrib-right}
 use mathlib.Core.List.{List, [], _∷_, map}
-use Prim.Native.Nat.{ℕ, _*_, _^_}
-use native.Mathlib.Nat.{mul-pos}
-use native.Mathlib.Omega.{arith}
-use lib.Dec.{eqb, lit≤}
+use Prim.Native.Nat.{ℕ}
+use lib.Dec.{lit≤}
 use lib.ListN.{getD, List·getD-map}
-use borrow.Author.Tests.{eqb-true, eqb-false, eq-eqb, ne-eqb, not-false}
+use borrow.Author.Tests.{not-false}
 use Rattle.rounding.specs.declared.Direction.the-variants.{Up}
-use Rattle.rounding.proofs.Greatest.{pow-ten-pos}
-use Rattle.rounding.proofs.ExactResults.{worth-zero}
 use Rattle.decimal.specs.declared.Decimal.{Decimal}
-use Rattle.decimal.specs.Exponent.{raise}
-use Rattle.decimal.specs.Decimal.{zeroOf, plainOf, workingOf}
-use Rattle.decimal.specs.Fraction.{given}
-use Rattle.decimal.proofs.Approximation.{fair-zero, working-fair}
+use Rattle.decimal.specs.Decimal.{zeroOf, workingOf}
+use Rattle.decimal.proofs.Approximation.{fair-zero, given-zero, working-fair}
 use Rattle.inputs.specs.declared.Scenario.{Scenario}
 use Rattle.inputs.specs.declared.Contaminant.{Contaminant}
 use Rattle.inputs.specs.Valid.{validOf, allValid}
-use Rattle.inputs.specs.Rules.{lacksFactor}
 use Rattle.inputs.proofs.Tests.{and-split, valid-small}
 use Rattle.terms.specs.Formula.{Formula, B, table, pathwaysOf, derived}
 use Rattle.terms.specs.Term.{look, known, presentOf, inputsOf, valuesOf}
-use Rattle.terms.specs.ExactTerm.{exactly, exactPresent, exactTerm, exactTotal, exactValues, anyPresent}
+use Rattle.terms.specs.ExactTerm.{exactPresent, exactTerm, exactTotal, exactValues}
 use Rattle.terms.proofs.Sound.{derived-sound}
 use Rattle.terms.proofs.TermBounds.{Represents, total-present}
 use Rattle.guideline.specs.Column.{Accepted}
@@ -32,18 +25,7 @@ use Rattle.guideline.proofs.Steps.{inputs-valid, values-of, accepted-inputs}
 use Rattle.sums.specs.Share.{hasPathway}
 use Rattle.sums.specs.Presence.{knownOf, knownValues, allKnown, someKnown, eitherSide, chemicalOf, Checked}
 
--- ---- a decimal is worth nothing exactly when its m is zero, and so is its working form
-given-zero : (d : Decimal) → eqb (given d .top) 0 ≡ eqb (d .m) 0
-unfolding given
-given-zero d = cases (eqb (d .m) 0) refl
-  where
-    cases : (b : Bool) → eqb (d .m) 0 ≡ b → eqb (d .m * 10 ^ raise (d .e)) 0 ≡ b
-    cases true e = eq-eqb _ 0 (worth-zero (plainOf d) (eqb-true (d .m) 0 e))
-    cases false e =
-        let z = eqb-false (d .m) 0 e in
-        let p = mul-pos {m = d .m} {n = 10 ^ raise (d .e)} (omega (arith, z)) (pow-ten-pos (raise (d .e))) in
-        ne-eqb (d .m * 10 ^ raise (d .e)) 0 (omega arith)
-
+-- ---- the working form of an input is zero exactly when its m is
 working-known : (l : List Decimal) → allValid l ≡ true → map knownOf (map workingOf l) ≡ map knownOf l
 working-known [] v = refl
 working-known (d ∷ ds) v =
@@ -61,7 +43,7 @@ unfolding presentOf
 any-known vs [] = refl
 any-known vs (f ∷ fs) = rw (known-is vs (f .before), known-is vs (f .after), any-known vs fs)
 
--- ---- what the code tests is what the table asks: a chemical's two sides by pathway, or by dose as the code has them
+-- ---- a chemical by its doses, as the code has it, and by side and pathway, as the table has it
 and-left-comm : (a b c : Bool) → a && (b && c) ≡ b && (a && c)
 and-left-comm a b c = sym (and-assoc a b c) ∙ ap (λ (t : Bool). t && c) (and-comm a b) ∙ and-assoc b a c
 
@@ -77,18 +59,25 @@ module _ (sfo sfi rfdo rfdi : Bool) where
   three-ways : (a b c : Bool) → (a || c) && (sfo || rfdo) || b && (sfi || rfdi) ≡ (sfo && a || (sfi && b || sfo && c)) || (a && rfdo || (b && rfdi || c && rfdo))
   three-ways a b c = simp sorted
 
+-- ---- what the code tests is what the table asks
 module _ (s : Scenario) (r : Contaminant) where
-  pub soil-chemical : chemicalOf r (knownOf (s .ir)) (knownOf (s .ira) && (knownOf (r .vf) || knownOf (s .pef))) ≡ eitherSide (knownValues s r) 1 1
-  unfolding pathwaysOf table
-  soil-chemical = simp (and-true, or-false) (two-ways (knownOf (r .sfo)) (knownOf (r .sfi)) (knownOf (r .rfdo)) (knownOf (r .rfdi)) (knownOf (s .ir)) (knownOf (s .ira) && (knownOf (r .vf) || knownOf (s .pef))))
+  abbrev air : Bool
+  air = knownOf (s .ira) && (knownOf (r .vf) || knownOf (s .pef))
 
-  pub soil-radionuclide : knownOf (r .sfo) && knownOf (s .ir) || (knownOf (r .sfi) && knownOf (s .ira) && knownOf (s .pef) || knownOf (r .sfx) && (knownOf (s .et) && knownOf (s .rf))) ≡ eitherSide (knownValues s r) 1 2
-  unfolding pathwaysOf table
-  soil-radionuclide = simp (and-true, or-false)
+  abbrev skin : Bool
+  skin = knownOf (s .sa) && (knownOf (r .pc) && knownOf (s .et))
 
-  pub water-chemical : chemicalOf r (knownOf (s .ir) || knownOf (s .sa) && (knownOf (r .pc) && knownOf (s .et))) (knownOf (s .ira)) ≡ eitherSide (knownValues s r) 2 1
+  pub soil-chemical : chemicalOf r (knownOf (s .ir)) air ≡ eitherSide (knownValues s r) 1 1
   unfolding pathwaysOf table
-  water-chemical = simp (and-true, or-false) (three-ways (knownOf (r .sfo)) (knownOf (r .sfi)) (knownOf (r .rfdo)) (knownOf (r .rfdi)) (knownOf (s .ir)) (knownOf (s .ira)) (knownOf (s .sa) && (knownOf (r .pc) && knownOf (s .et))))
+  soil-chemical = simp (and-true, or-false) (two-ways (knownOf (r .sfo)) (knownOf (r .sfi)) (knownOf (r .rfdo)) (knownOf (r .rfdi)) (knownOf (s .ir)) air)
+
+  pub soil-radionuclide : knownOf (r .sfo) && knownOf (s .ir) || (knownOf (r .sfi) && (knownOf (s .ira) && knownOf (s .pef)) || knownOf (r .sfx) && (knownOf (s .et) && knownOf (s .rf))) ≡ eitherSide (knownValues s r) 1 2
+  unfolding pathwaysOf table
+  soil-radionuclide = simp (and-true, or-false, and-assoc)
+
+  pub water-chemical : chemicalOf r (knownOf (s .ir) || skin) (knownOf (s .ira)) ≡ eitherSide (knownValues s r) 2 1
+  unfolding pathwaysOf table
+  water-chemical = simp (and-true, or-false) (three-ways (knownOf (r .sfo)) (knownOf (r .sfi)) (knownOf (r .rfdo)) (knownOf (r .rfdi)) (knownOf (s .ir)) (knownOf (s .ira)) skin)
 
   pub water-radionuclide : knownOf (r .sfo) && knownOf (s .ir) ≡ eitherSide (knownValues s r) 2 2
   unfolding pathwaysOf table
@@ -96,11 +85,11 @@ module _ (s : Scenario) (r : Contaminant) where
 
 -- ---- inputs that keep their rules
 module _ {s : Scenario} {medium : ℕ} {r : Contaminant} (h : Checked s medium r) where
-  pub inputs-of : Accepted s medium r
-  inputs-of = accepted-inputs s medium r (h .scenario) (h .factors) (h .contaminant)
+  pub checked-inputs : Accepted s medium r
+  checked-inputs = accepted-inputs s medium r (h .scenario) (h .factors) (h .contaminant)
 
   reps : Represents Up (valuesOf Up (inputsOf s r)) (exactValues (inputsOf s r))
-  reps = values-of Up s medium r inputs-of
+  reps = values-of Up s medium r checked-inputs
 
   -- B is 1/VF + 1/PEF
   b-known : knownOf (look (valuesOf Up (inputsOf s r)) B) ≡ knownOf (r .vf) || knownOf (s .pef)
@@ -117,7 +106,7 @@ module _ {s : Scenario} {medium : ℕ} {r : Contaminant} (h : Checked s medium r
       let b = and-split (knownOf (s .ed)) _ (a .1) in
       let c = and-split (knownOf (s .bw)) _ (b .1) in
       let d = and-split (knownOf (s .at)) _ (c .1) in
-      ap (λ (ks : List Bool). knownOf (look (valuesOf Up (inputsOf s r)) B) ∷ ks) (working-known (inputsOf s r) (inputs-valid s r (inputs-of .scenario) (inputs-of .contaminant))) ∙
+      ap (λ (ks : List Bool). knownOf (look (valuesOf Up (inputsOf s r)) B) ∷ ks) (working-known (inputsOf s r) (inputs-valid s r (checked-inputs .scenario) (checked-inputs .contaminant))) ∙
       rw (b-known, a .0, b .0, c .0, d .0)
 
   side-known : (side : ℕ) → hasPathway s medium r side ≡ someKnown (knownValues s r) (pathwaysOf medium (r .class) side)

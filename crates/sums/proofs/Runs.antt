@@ -28,17 +28,13 @@ use Rattle.guideline.specs.Column.{Accepted}
 use Rattle.guideline.proofs.WorkedOut.{any-same}
 use Rattle.guideline.proofs.Steps.{accepted-inputs, values-of}
 use Rattle.sums.specs.declared.SumsAnswer.{SumsAnswer}
-use Rattle.sums.specs.Share.{Running, start, next, shareOf, hasPathway}
+use Rattle.sums.specs.Share.{Running, start, next, runAll, shareOf, hasPathway}
 use Rattle.sums.specs.ListCall.{blockDecimals, refused, sideSums, accepted, firstRefusal, walk, sumsOf}
 use Rattle.sums.specs.Promise.{somePathway, sideAt}
 use Rattle.sums.proofs.ShareBounds.{AllAccepted}
 use Rattle.sums.proofs.ShareBounds.AllAccepted.{nobody, also}
 
 -- ---- the running sums of a side over a list
-abbrev pub runAll : Scenario → ℕ → ℕ → Running → List Contaminant → Running
-runAll s medium side t [] = t
-runAll s medium side t (r ∷ rs) = runAll s medium side (next s medium side t r) rs
-
 pub run-lower : (s : Scenario) (medium side : ℕ) (rs : List Contaminant) (t : Running) → runAll s medium side t rs .lower ≡ added Down (t .lower) (map (λ (r : Contaminant). shareOf s medium r Down side) rs)
 run-lower s medium side [] t = refl
 run-lower s medium side (r ∷ rs) t = run-lower s medium side rs (next s medium side t r)

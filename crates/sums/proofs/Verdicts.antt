@@ -32,13 +32,13 @@ use Rattle.guideline.specs.Promise.{targetOf}
 use Rattle.sums.specs.declared.Verdict.{Verdict}
 use Rattle.sums.specs.declared.Verdict.the-variants.{Unset, Within as WithinV, Above, Undecided, NoPathway}
 use Rattle.sums.specs.declared.SideSums.{SideSums}
-use Rattle.sums.specs.Share.{Running, start, shareOf, exactShare}
+use Rattle.sums.specs.Share.{Running, start, shareOf, exactShare, runAll}
 use Rattle.sums.specs.Verdict.{verdictNumber, verdictOf}
 use Rattle.sums.specs.ListCall.{workingTarget, sideSums, sumsOf}
 use Rattle.sums.specs.Promise.{exactSum, somePathway, noConcentration, sideAt, more, less, Enclosed, MoreThan, Judged}
 use Rattle.sums.proofs.ShareBounds.{fair-bottom, AllAccepted, list-bounds}
 use Rattle.sums.proofs.ShareBounds.AllAccepted.{nobody, also}
-use Rattle.sums.proofs.Runs.{runAll, run-lower, run-upper, run-any, AcceptedList, accepted-list}
+use Rattle.sums.proofs.Runs.{run-lower, run-upper, run-any, AcceptedList, accepted-list}
 
 -- ---- 139 roundings are less than 2/1,000,000
 upper-core : (a b : ℕ) → Within 139 a b → b * 1000000 ≤ a * 1000002

@@ -16,12 +16,16 @@ use Rattle.terms.specs.Term.{hasFactors}
 abbrev pub knownOf : Decimal → Bool
 knownOf d = not (eqb (d .m) 0)
 
--- which values are known, in the order of the table's names, once refusal 6 is passed: EF, ED, BW and AT are, and the constants
+-- which values are known, in the order of the table's names, once refusal 6 is passed
 abbrev pub knownValues : Scenario → Contaminant → List Bool
 knownValues s r =
-    (knownOf (r .vf) || knownOf (s .pef)) ∷ (true ∷ (true ∷ (true ∷ (true ∷ (true ∷ (true ∷ (true ∷ (true ∷ (true ∷ (true ∷
-    (knownOf (s .ir) ∷ (knownOf (s .ira) ∷ (knownOf (s .pef) ∷ (knownOf (s .et) ∷ (knownOf (s .rf) ∷ (knownOf (s .sa) ∷ (knownOf (s .tr) ∷ (knownOf (s .thi) ∷
-    map knownOf (contaminantDecimals r)))))))))))))))))))
+    -- B
+    (knownOf (r .vf) || knownOf (s .pef)) ∷
+    -- the constants; EF, ED, BW, AT
+    true ∷ true ∷ true ∷ true ∷ true ∷ true ∷ true ∷ true ∷ true ∷ true ∷
+    -- IR, IRA, PEF, ET, RF, SA, TR, THI
+    knownOf (s .ir) ∷ knownOf (s .ira) ∷ knownOf (s .pef) ∷ knownOf (s .et) ∷ knownOf (s .rf) ∷ knownOf (s .sa) ∷ knownOf (s .tr) ∷ knownOf (s .thi) ∷
+    map knownOf (contaminantDecimals r)
 
 -- as `known`, `presentOf` and `anyPathway`, over what is known of each name
 abbrev pub allKnown : List Bool → List ℕ → Bool
@@ -36,7 +40,7 @@ someKnown ks (f ∷ fs) = hasFactors (f .before) && (allKnown ks (f .before) && 
 abbrev pub eitherSide : List Bool → ℕ → ℕ → Bool
 eitherSide ks medium class = someKnown ks (pathwaysOf medium class 0) || someKnown ks (pathwaysOf medium class 1)
 
--- a chemical, by what is known of the ways into the body
+-- a chemical, by what is known of the ways into the body: by the dose of each
 abbrev pub chemicalOf : Contaminant → Bool → Bool → Bool
 chemicalOf r swallowed breathed = swallowed && (knownOf (r .sfo) || knownOf (r .rfdo)) || breathed && (knownOf (r .sfi) || knownOf (r .rfdi))
 

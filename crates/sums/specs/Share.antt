@@ -1,6 +1,6 @@
 -- A contaminant's share of a side's sums, and one step of the running sums (paper 01, "Guidelines, sums, verdicts").
 use mathlib.Core.Bool.{Bool, false, _||_}
-use mathlib.Core.List.{List}
+use mathlib.Core.List.{List, [], _∷_}
 use Prim.Native.Nat.{ℕ}
 use Rattle.rounding.specs.declared.Direction.{Direction}
 use Rattle.rounding.specs.declared.Direction.the-variants.{Down, Up}
@@ -42,6 +42,11 @@ next s medium side t r = record {
   upper = addOf (t .upper) (shareOf s medium r Up side) Up;
   any = t .any || hasPathway s medium r side;
 }
+
+-- the running sums of a side over a list
+abbrev pub runAll : Scenario → ℕ → ℕ → Running → List Contaminant → Running
+runAll s medium side t [] = t
+runAll s medium side t (r ∷ rs) = runAll s medium side (next s medium side t r) rs
 
 -- ---- exactly: the concentration as given times the sum of the exact terms
 unfoldable pub exactShare : Scenario → ℕ → ℕ → Contaminant → Fraction

@@ -3,9 +3,9 @@ use inputs::Contaminant;
 use inputs::Scenario;
 use inputs::both;
 ghost use mathlib.Core.Path.{_≡_};
-ghost use mathlib.Core.Bool.{_||_};
+ghost use mathlib.Core.Bool.{_&&_, _||_};
 ghost use Rattle.sums.specs.Share.{hasPathway};
-ghost use Rattle.sums.specs.Presence.{chemicalOf, knownValues, eitherSide, Checked};
+ghost use Rattle.sums.specs.Presence.{knownValues, eitherSide, chemicalOf, Checked};
 
 // One test or the other.
 pub fn either(a: bool, b: bool) -> bool
@@ -17,6 +17,13 @@ pub fn either(a: bool, b: bool) -> bool
     b
 }
 
+// All three tests.
+fn all_three(a: bool, b: bool, c: bool) -> bool
+    ensures { λ r. ⌜ r ≡ a && (b && c) ⌝ }
+{
+    both(a, both(b, c))
+}
+
 // A chemical, by what is known of the ways into the body: with a slope factor (risk) or a reference dose (hazard).
 fn chemical(r: Contaminant, swallowed: bool, breathed: bool) -> bool
     ensures { λ b. ⌜ b ≡ chemicalOf r swallowed breathed ⌝ }
@@ -26,7 +33,7 @@ fn chemical(r: Contaminant, swallowed: bool, breathed: bool) -> bool
     either(both(swallowed, oral), both(breathed, inhaled))
 }
 
-// A chemical in soil: ingestion or inhalation.
+// A chemical in soil: ingestion, and inhalation where VF or PEF is known.
 fn soil_chemical(s: Scenario, r: Contaminant) -> bool
     ensures { λ b. ⌜ b ≡ eitherSide (knownValues s r) 1 1 ⌝ }
 {
@@ -34,21 +41,21 @@ fn soil_chemical(s: Scenario, r: Contaminant) -> bool
     chemical(r, s.ir.m != 0, both(s.ira.m != 0, air))
 }
 
-// A radionuclide in soil: ingestion, inhalation or external radiation.
+// A radionuclide in soil: ingestion, inhalation and external radiation.
 fn soil_radionuclide(s: Scenario, r: Contaminant) -> bool
     ensures { λ b. ⌜ b ≡ eitherSide (knownValues s r) 1 2 ⌝ }
 {
     let swallowed = both(r.sfo.m != 0, s.ir.m != 0);
-    let breathed = both(both(r.sfi.m != 0, s.ira.m != 0), s.pef.m != 0);
-    let outdoors = both(r.sfx.m != 0, both(s.et.m != 0, s.rf.m != 0));
+    let breathed = all_three(r.sfi.m != 0, s.ira.m != 0, s.pef.m != 0);
+    let outdoors = all_three(r.sfx.m != 0, s.et.m != 0, s.rf.m != 0);
     either(swallowed, either(breathed, outdoors))
 }
 
-// A chemical in water: ingestion or skin, or vapour.
+// A chemical in water: ingestion and skin, and vapour.
 fn water_chemical(s: Scenario, r: Contaminant) -> bool
     ensures { λ b. ⌜ b ≡ eitherSide (knownValues s r) 2 1 ⌝ }
 {
-    let skin = both(s.sa.m != 0, both(r.pc.m != 0, s.et.m != 0));
+    let skin = all_three(s.sa.m != 0, r.pc.m != 0, s.et.m != 0);
     chemical(r, either(s.ir.m != 0, skin), s.ira.m != 0)
 }
 

@@ -9,8 +9,9 @@ use Rattle.fields.specs.Fields.{fieldBytes}
 use Rattle.inputs.specs.declared.Contaminant.{Contaminant}
 use Rattle.inputs.specs.Inputs.{scenarioDecimals, contaminantDecimals}
 use Rattle.blocks.specs.declared.Header.{Header}
-use Rattle.writers.specs.declared.Guidelines.{Guidelines}
-use Rattle.writers.specs.declared.Summary.{Summary}
+use Rattle.guideline.specs.declared.SideGuidelines.{SideGuidelines}
+use Rattle.sums.specs.declared.SideSums.{SideSums}
+use Rattle.sums.specs.Verdict.{verdictNumber}
 
 -- the word that added to the first 127 of l gives zero modulo 4,294,967,296
 unfoldable pub lastWord : List ℕ → ℕ
@@ -37,15 +38,16 @@ unfoldable pub contaminantBlock : ℕ → Contaminant → List ℕ
 contaminantBlock place r = blockOf 2 place (r .class) (r .id) (contaminantDecimals r) (replicate 428 0)
 
 -- kind 3, result: risk 1, 2, 3, total, then hazard likewise
-abbrev pub guidelineDecimals : Guidelines → List Decimal
-guidelineDecimals g = g .risk1 ∷ (g .risk2 ∷ (g .risk3 ∷ (g .risk ∷ (g .hazard1 ∷ (g .hazard2 ∷ (g .hazard3 ∷ (g .hazard ∷ [])))))))
+abbrev pub guidelineDecimals : SideGuidelines → SideGuidelines → List Decimal
+guidelineDecimals r h = r .first ∷ (r .second ∷ (r .third ∷ (r .total ∷ (h .first ∷ (h .second ∷ (h .third ∷ (h .total ∷ [])))))))
 
-unfoldable pub resultBlock : ℕ → ℕ → ℕ → Guidelines → List ℕ
-resultBlock place class id g = blockOf 3 place class id (guidelineDecimals g) (replicate 428 0)
+unfoldable pub resultBlock : ℕ → ℕ → ℕ → SideGuidelines → SideGuidelines → List ℕ
+resultBlock place class id risk hazard = blockOf 3 place class id (guidelineDecimals risk hazard) (replicate 428 0)
 
 -- kind 4, summary, place 0: lower and upper sums, at 48 the risk verdict, at 52 the hazard verdict
-abbrev pub summaryDecimals : Summary → List Decimal
-summaryDecimals t = t .risk .lower ∷ (t .risk .upper ∷ (t .hazard .lower ∷ (t .hazard .upper ∷ [])))
+abbrev pub summaryDecimals : SideSums → SideSums → List Decimal
+summaryDecimals r h = r .lower ∷ (r .upper ∷ (h .lower ∷ (h .upper ∷ [])))
 
-unfoldable pub summaryBlock : Summary → List ℕ
-summaryBlock t = blockOf 4 0 0 0 (summaryDecimals t) (le4 (t .risk .verdict) ++ (le4 (t .hazard .verdict) ++ replicate 452 0))
+unfoldable pub summaryBlock : SideSums → SideSums → List ℕ
+summaryBlock risk hazard =
+    blockOf 4 0 0 0 (summaryDecimals risk hazard) (le4 (verdictNumber (risk .verdict)) ++ (le4 (verdictNumber (hazard .verdict)) ++ replicate 452 0))

@@ -1,39 +1,15 @@
 // Writing blocks into the first 512 bytes of what is lent: header, contaminant, result, summary.
 use blocks::Header;
-use decimal::Decimal;
+use guideline::SideGuidelines;
 use inputs::Contaminant;
 use outcome::Refusal;
+use sums::SideSums;
 ghost use mathlib.Core.Path.{_≡_};
 ghost use Prim.Native.Nat.{_≤_};
 ghost use lib.ListN.{length};
 ghost use Rattle.words.specs.Bytes.{placed, le4, over};
 ghost use Rattle.writers.specs.Blocks.{lastWord, firstWords, headerBlock, contaminantBlock, resultBlock, summaryBlock};
 ghost use Rattle.writers.specs.Answers.{headerFit, contaminantFit, headerAnswer, headerLeft, contaminantAnswer, contaminantLeft};
-
-// The decimals of a result block: the guidelines of risk by pathway and in total, then those of hazard.
-pub struct Guidelines {
-    pub risk1: Decimal,
-    pub risk2: Decimal,
-    pub risk3: Decimal,
-    pub risk: Decimal,
-    pub hazard1: Decimal,
-    pub hazard2: Decimal,
-    pub hazard3: Decimal,
-    pub hazard: Decimal,
-}
-
-// The sums of a side, risk or hazard, and its verdict.
-pub struct Side {
-    pub lower: Decimal,
-    pub upper: Decimal,
-    pub verdict: u32,
-}
-
-// What a summary block holds.
-pub struct Summary {
-    pub risk: Side,
-    pub hazard: Side,
-}
 
 // Writes the last word, so that all 128 words add to zero.
 fn put_last_word(out: &mut [u8])
@@ -81,29 +57,43 @@ fn put_contaminant(out: &mut [u8], place: u32, r: Contaminant)
     put_last_word(out);
 }
 
-// Writes a block of kind 3.
-pub fn put_result(out: &mut [u8], place: u32, class: u32, id: u32, g: Guidelines)
+// Writes a block of kind 3: the guidelines of risk by pathway and in total, then those of hazard.
+pub fn put_result(
+    out: &mut [u8],
+    place: u32,
+    class: u32,
+    id: u32,
+    risk: SideGuidelines,
+    hazard: SideGuidelines,
+)
     requires { ⌜ 512 ≤ length (now out) ⌝ }
-    ensures { λ _. ⌜ now (out .exit) ≡ over (resultBlock place class id g) (now (out .entry)) ⌝ }
+    ensures { λ _. ⌜ now (out .exit) ≡ over (resultBlock place class id risk hazard) (now (out .entry)) ⌝ }
 {
     put_first_words(out, 3, place, class, id);
-    fields::put_four(out, 16, g.risk1, g.risk2, g.risk3, g.risk);
-    fields::put_four(out, 48, g.hazard1, g.hazard2, g.hazard3, g.hazard);
+    fields::put_four(out, 16, risk.first, risk.second, risk.third, risk.total);
+    fields::put_four(
+        out,
+        48,
+        hazard.first,
+        hazard.second,
+        hazard.third,
+        hazard.total,
+    );
     words::clear(out, 80, 428);
     put_last_word(out);
 }
 
-// Writes a block of kind 4.
-pub fn put_summary(out: &mut [u8], t: Summary)
+// Writes a block of kind 4: the sums of risk, those of hazard, and the two verdicts.
+pub fn put_summary(out: &mut [u8], risk: SideSums, hazard: SideSums)
     requires { ⌜ 512 ≤ length (now out) ⌝ }
-    ensures { λ _. ⌜ now (out .exit) ≡ over (summaryBlock t) (now (out .entry)) ⌝ }
+    ensures { λ _. ⌜ now (out .exit) ≡ over (summaryBlock risk hazard) (now (out .entry)) ⌝ }
 {
-    let r = t.risk;
-    let h = t.hazard;
+    let r = risk.verdict;
+    let h = hazard.verdict;
     put_first_words(out, 4, 0, 0, 0);
-    fields::put_four(out, 16, r.lower, r.upper, h.lower, h.upper);
-    words::put(out, 48, r.verdict);
-    words::put(out, 52, h.verdict);
+    fields::put_four(out, 16, risk.lower, risk.upper, hazard.lower, hazard.upper);
+    words::put(out, 48, sums::verdict_number(r));
+    words::put(out, 52, sums::verdict_number(h));
     words::clear(out, 56, 452);
     put_last_word(out);
 }

@@ -37,8 +37,8 @@ over-requires-8 c κs = (wide-range (c .before .before .before .before .before .
 
 returns : tie.Need-returns
 returns c = (
-  record { sum = c .before .before .before .before .before .before .before .before .before .total .ensures .0; first = c .before .before .before .before .before .before .before .over .ensures; second = c .before .before .before .before .before .before .over2 .ensures; third = c .before .before .before .before .before .over3 .ensures; total = c .before .before .before .before .over4 .ensures },
-  record { sum = c .before .before .before .before .before .before .before .before .total2 .ensures .0; first = c .before .before .before .over5 .ensures; second = c .before .before .over6 .ensures; third = c .before .over7 .ensures; total = c .over8 .ensures },
+  record { sum = c .before .before .before .before .before .before .before .before .before .total .ensures .0; size = c .before .before .before .before .before .before .before .before .before .total .ensures .1; first = c .before .before .before .before .before .before .before .over .ensures; second = c .before .before .before .before .before .before .over2 .ensures; third = c .before .before .before .before .before .over3 .ensures; total = c .before .before .before .before .over4 .ensures },
+  record { sum = c .before .before .before .before .before .before .before .before .total2 .ensures .0; size = c .before .before .before .before .before .before .before .before .total2 .ensures .1; first = c .before .before .before .over5 .ensures; second = c .before .before .over6 .ensures; third = c .before .over7 .ensures; total = c .over8 .ensures },
 )
 
 pub columns-of-spec : {M : Type 1} → statement M

@@ -34,17 +34,22 @@ same-length c = search needs
 returns : tie.Need-returns
 unfolding resultBlock bodyOf
 returns c =
-    let d = c .before .before .before .before .before .before .before .before .before .before .before .before .before .before .before .before .before .before .before .before .before .args .out .now in
-    let p = c .before .before .before .before .before .before .before .before .before .before .before .before .before .before .before .before .before .before .before .before .before .args .place in
-    let v = c .before .before .before .before .before .before .before .before .before .before .before .before .before .before .before .before .before .before .before .before .before .args .g in
-    let first = firstWords 3 p (c .before .before .before .before .before .before .before .before .before .before .before .before .before .before .before .before .before .before .before .before .before .args .class) (c .before .before .before .before .before .before .before .before .before .before .before .before .before .before .before .before .before .before .before .before .before .args .id) in
-    let x : List Decimal = v .risk1 ∷ (v .risk2 ∷ (v .risk3 ∷ (v .risk ∷ []))) in
-    let y : List Decimal = v .hazard1 ∷ (v .hazard2 ∷ (v .hazard3 ∷ (v .hazard ∷ []))) in
-    let w₁ = wrote-next (c .before .before .before .before .before .before .before .before .before .before .before .before .before .before .before .before .before .before .put-first-words .last .0) first 16 (wrote-none d) (c .before .before .before .before .before .before .before .before .before .before .before .before .before .before .before .before .before .before .put-first-words .ensures) (firstWords-length 3 p (c .before .before .before .before .before .before .before .before .before .before .before .before .before .before .before .before .before .before .before .before .before .args .class) (c .before .before .before .before .before .before .before .before .before .before .before .before .before .before .before .before .before .before .before .before .before .args .id)) in
-    let w₂ = wrote-next (c .before .before .before .before .before .before .before .before .before .before .before .before .before .before .put-four .last .0) (fieldBytes x) 32 w₁ (c .before .before .before .before .before .before .before .before .before .before .before .before .before .before .put-four .ensures) (fieldBytes-length x) in
-    let w₃ = wrote-fields first x y 32 (c .before .before .before .before .before .before .before .before .before .before .put-four2 .last .0) w₂ (c .before .before .before .before .before .before .before .before .before .before .put-four2 .ensures) refl in
-    let w₄ = wrote-next (c .before .before .before .before .before .before .clear .last .0) (replicate 428 0) 428 w₃ (c .before .before .before .before .before .before .clear .ensures) (length-replicate {A = ℕ} 428 0) in
-    wrote-block 3 p (c .before .before .before .before .before .before .before .before .before .before .before .before .before .before .before .before .before .before .before .before .before .args .class) (c .before .before .before .before .before .before .before .before .before .before .before .before .before .before .before .before .before .before .before .before .before .args .id) (guidelineDecimals v) (replicate 428 0) (c .before .before .put-last-word .last .0) w₄ (c .before .before .put-last-word .ensures)
+    let c₅ = c .before .before in
+    let c₄ = c₅ .before .before .before .before in
+    let c₃ = c₄ .before .before .before .before in
+    let c₂ = c₃ .before .before .before .before in
+    let c₁ = c₂ .before .before .before .before in
+    let v = c₁ .before .before .before .args in
+    let r = v .risk in
+    let h = v .hazard in
+    let first = firstWords 3 (v .place) (v .class) (v .id) in
+    let x : List Decimal = r .first ∷ (r .second ∷ (r .third ∷ (r .total ∷ []))) in
+    let y : List Decimal = h .first ∷ (h .second ∷ (h .third ∷ (h .total ∷ []))) in
+    let w₁ = wrote-next (c₁ .put-first-words .last .0) first 16 (wrote-none (v .out .now)) (c₁ .put-first-words .ensures) (firstWords-length 3 (v .place) (v .class) (v .id)) in
+    let w₂ = wrote-next (c₂ .put-four .last .0) (fieldBytes x) 32 w₁ (c₂ .put-four .ensures) (fieldBytes-length x) in
+    let w₃ = wrote-fields first x y 32 (c₃ .put-four2 .last .0) w₂ (c₃ .put-four2 .ensures) refl in
+    let w₄ = wrote-next (c₄ .clear .last .0) (replicate 428 0) 428 w₃ (c₄ .clear .ensures) (length-replicate {A = ℕ} 428 0) in
+    wrote-block 3 (v .place) (v .class) (v .id) (guidelineDecimals r h) (replicate 428 0) (c₅ .put-last-word .last .0) w₄ (c₅ .put-last-word .ensures)
 
 pub put-result-spec : {M : Type 1} → statement M
 put-result-spec =

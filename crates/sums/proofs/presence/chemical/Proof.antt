@@ -19,7 +19,7 @@ either-requires-3 : tie.Need-either-requires-3
 either-requires-3 c κs = search needs
 
 returns : tie.Need-returns
-returns c = cc
+returns c = rw (c .either3 .ensures, c .before .both2 .ensures, c .before .before .both .ensures, c .before .before .before .either2 .ensures, c .before .before .before .before .before .before .either .ensures)
 
 pub chemical-spec : {M : Type 1} → statement M
 chemical-spec =

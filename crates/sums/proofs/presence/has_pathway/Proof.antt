@@ -1,6 +1,6 @@
 -- `sums::presence::has_pathway` meets its contract. Assumes nothing.
 use Rattle.terms.proofs.NumberValues.{other-one, other-two}
-use Rattle.sums.proofs.KnownValues.{inputs-of, pathway-is}
+use Rattle.sums.proofs.KnownValues.{checked-inputs, pathway-is}
 use borrow.Author.Needs.{needs}
 use Rattle.sums.proofs.presence.has_pathway.Statement.{statement}
 use Rattle.sums.proofs.presence.has_pathway.Tie as tie
@@ -9,25 +9,33 @@ soil-radionuclide-requires : tie.Need-soil-radionuclide-requires
 soil-radionuclide-requires c κs = search needs
 
 returns : tie.Need-returns
-returns c = pathway-is (c .before .before .before .before .pre) (c .before .if2 .taken) (c .before .before .if1 .taken) (c .soil-radionuclide .ensures)
+returns c =
+    let p = c .before .before .before .before .pre in
+    pathway-is p (c .before .if2 .taken) (c .before .before .if1 .taken) (c .soil-radionuclide .ensures)
 
 water-radionuclide-requires : tie.Need-water-radionuclide-requires
 water-radionuclide-requires c κs = search needs
 
 returns-2 : tie.Need-returns-2
-returns-2 c = pathway-is (c .before .before .before .before .pre) (other-one (inputs-of (c .before .before .before .before .pre) .media) (c .before .if2 .left)) (c .before .before .if1 .taken) (c .water-radionuclide .ensures)
+returns-2 c =
+    let p = c .before .before .before .before .pre in
+    pathway-is p (other-one (checked-inputs p .media) (c .before .if2 .left)) (c .before .before .if1 .taken) (c .water-radionuclide .ensures)
 
 soil-chemical-requires : tie.Need-soil-chemical-requires
 soil-chemical-requires c κs = search needs
 
 returns-3 : tie.Need-returns-3
-returns-3 c = pathway-is (c .before .before .before .before .pre) (c .before .if3 .taken) (other-two (inputs-of (c .before .before .before .before .pre) .class) (c .before .before .if1 .left)) (c .soil-chemical .ensures)
+returns-3 c =
+    let p = c .before .before .before .before .pre in
+    pathway-is p (c .before .if3 .taken) (other-two (checked-inputs p .class) (c .before .before .if1 .left)) (c .soil-chemical .ensures)
 
 water-chemical-requires : tie.Need-water-chemical-requires
 water-chemical-requires c κs = search needs
 
 returns-4 : tie.Need-returns-4
-returns-4 c = pathway-is (c .before .before .before .before .pre) (other-one (inputs-of (c .before .before .before .before .pre) .media) (c .before .if3 .left)) (other-two (inputs-of (c .before .before .before .before .pre) .class) (c .before .before .if1 .left)) (c .water-chemical .ensures)
+returns-4 c =
+    let p = c .before .before .before .before .pre in
+    pathway-is p (other-one (checked-inputs p .media) (c .before .if3 .left)) (other-two (checked-inputs p .class) (c .before .before .if1 .left)) (c .water-chemical .ensures)
 
 pub has-pathway-spec : {M : Type 1} → statement M
 has-pathway-spec =

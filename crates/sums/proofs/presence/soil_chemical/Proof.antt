@@ -14,7 +14,7 @@ chemical-requires : tie.Need-chemical-requires
 chemical-requires c κs = search needs
 
 returns : tie.Need-returns
-returns c = cc (soil-chemical (c .before .before .before .before .before .before .before .args .s) (c .before .before .before .before .before .before .before .args .r))
+returns c = rw (c .chemical .ensures, c .before .both .ensures, c .before .before .before .before .either .ensures) (soil-chemical (c .before .before .before .before .before .before .before .args .s) (c .before .before .before .before .before .before .before .args .r))
 
 pub soil-chemical-spec : {M : Type 1} → statement M
 soil-chemical-spec = tie.close (tie.spec either-requires both-requires chemical-requires returns)

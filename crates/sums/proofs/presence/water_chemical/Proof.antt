@@ -4,11 +4,8 @@ use borrow.Author.Needs.{needs}
 use Rattle.sums.proofs.presence.water_chemical.Statement.{statement}
 use Rattle.sums.proofs.presence.water_chemical.Tie as tie
 
-both-requires : tie.Need-both-requires
-both-requires c κs = search needs
-
-both-requires-2 : tie.Need-both-requires-2
-both-requires-2 c κs = search needs
+all-three-requires : tie.Need-all-three-requires
+all-three-requires c κs = search needs
 
 either-requires : tie.Need-either-requires
 either-requires c κs = search needs
@@ -17,8 +14,8 @@ chemical-requires : tie.Need-chemical-requires
 chemical-requires c κs = search needs
 
 returns : tie.Need-returns
-returns c = cc (water-chemical (c .before .before .before .before .before .before .before .before .before .args .s) (c .before .before .before .before .before .before .before .before .before .args .r))
+returns c = rw (c .chemical .ensures, c .before .before .either .ensures, c .before .before .before .before .all-three .ensures) (water-chemical (c .before .before .before .before .before .before .before .before .args .s) (c .before .before .before .before .before .before .before .before .args .r))
 
 pub water-chemical-spec : {M : Type 1} → statement M
 water-chemical-spec =
-    tie.close (tie.spec both-requires both-requires-2 either-requires chemical-requires returns)
+    tie.close (tie.spec all-three-requires either-requires chemical-requires returns)

@@ -8,7 +8,7 @@ both-requires : tie.Need-both-requires
 both-requires c κs = search needs
 
 returns : tie.Need-returns
-returns c = cc (water-radionuclide (c .before .before .before .args .s) (c .before .before .before .args .r))
+returns c = rw (c .both .ensures) (water-radionuclide (c .before .before .before .args .s) (c .before .before .before .args .r))
 
 pub water-radionuclide-spec : {M : Type 1} → statement M
 water-radionuclide-spec = tie.close (tie.spec both-requires returns)

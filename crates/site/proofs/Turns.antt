@@ -1,0 +1,66 @@
+-- One turn of the checking walk and of the writing walk: what is left from this place on stays the same. Assumes nothing.
+use mathlib.Core.Path.{_≡_, refl, sym, ap, _∙_}
+use mathlib.Core.Bool.{Bool, true, false, cond, _||_}
+use mathlib.Core.List.{List, [], _∷_}
+use Prim.Native.Nat.{ℕ, zero, suc, _+_, _-_, _≤_, _<_}
+use native.Mathlib.Omega.{arith}
+use lib.ListN.{length}
+use Rattle.outcome.specs.declared.Refusal.{Refusal}
+use Rattle.outcome.specs.declared.Refusal.the-variants.{Accepted, Pathway}
+use Rattle.inputs.specs.declared.Scenario.{Scenario}
+use Rattle.inputs.specs.declared.Contaminant.{Contaminant}
+use Rattle.blocks.specs.declared.ContaminantRead.{ContaminantRead}
+use Rattle.blocks.specs.declared.ContaminantRead.the-variants as C
+use Rattle.blocks.specs.Blocks.{contaminantRead}
+use Rattle.sums.specs.Share.{Running, next, runAll, hasPathway}
+use Rattle.site.specs.declared.Checked.{Checked}
+use Rattle.site.specs.Site.{blockAt}
+use Rattle.site.specs.Results.{recordAt}
+use Rattle.site.specs.Check.{checked, afterRead, checkBlocks, recordsFrom}
+
+module _ (s : Scenario) (medium : ℕ) (site : List ℕ) where
+  -- ---- the checking walk
+  module _ (n k before : ℕ) (l : k < n) where
+    abbrev found : Contaminant → Checked
+    found r = cond (hasPathway s medium r 0 || hasPathway s medium r 1) (checkBlocks s medium site (n - (k + 1)) (k + 1 + 1) (r .id)) (checked Pathway (k + 1))
+
+    check-turn : checkBlocks s medium site (n - k) (k + 1) before ≡ afterRead (contaminantRead (blockAt site (k + 1)) (k + 1) before) (λ (m : Refusal). checked m (k + 1)) found
+    unfolding checkBlocks
+    check-turn =
+        let e : n - k ≡ suc (n - (k + 1)) = omega arith in
+        ap (λ (j : ℕ). checkBlocks s medium site j (k + 1) before) e
+
+    read-turn : (x : ContaminantRead) → contaminantRead (blockAt site (k + 1)) (k + 1) before ≡ x → checkBlocks s medium site (n - k) (k + 1) before ≡ afterRead x (λ (m : Refusal). checked m (k + 1)) found
+    read-turn x e = check-turn ∙ ap (λ (y : ContaminantRead). afterRead y (λ (m : Refusal). checked m (k + 1)) found) e
+
+    pub turn-refused : (m : Refusal) → contaminantRead (blockAt site (k + 1)) (k + 1) before ≡ C.Refused m → checkBlocks s medium site (n - k) (k + 1) before ≡ checked m (k + 1)
+    turn-refused m e = read-turn (C.Refused m) e
+
+    module _ (r : Contaminant) (e : contaminantRead (blockAt site (k + 1)) (k + 1) before ≡ C.Found r) where
+      by-pathway : (b : Bool) → hasPathway s medium r 0 || hasPathway s medium r 1 ≡ b → checkBlocks s medium site (n - k) (k + 1) before ≡ cond b (checkBlocks s medium site (n - (k + 1)) (k + 1 + 1) (r .id)) (checked Pathway (k + 1))
+      by-pathway b q = read-turn (C.Found r) e ∙ ap (λ (t : Bool). cond t (checkBlocks s medium site (n - (k + 1)) (k + 1 + 1) (r .id)) (checked Pathway (k + 1))) q
+
+      pub turn-pathway : hasPathway s medium r 0 || hasPathway s medium r 1 ≡ false → checkBlocks s medium site (n - k) (k + 1) before ≡ checked Pathway (k + 1)
+      turn-pathway q = by-pathway false q
+
+      pub turn-next : hasPathway s medium r 0 || hasPathway s medium r 1 ≡ true → checkBlocks s medium site (n - k) (k + 1) before ≡ checkBlocks s medium site (n - (k + 1)) (k + 1 + 1) (r .id)
+      turn-next q = by-pathway true q
+
+  pub check-none : (n k before : ℕ) → n ≤ k → checkBlocks s medium site (n - k) (k + 1) before ≡ checked Accepted 0
+  unfolding checkBlocks
+  check-none n k before l =
+      let e : n - k ≡ 0 = omega arith in
+      ap (λ (j : ℕ). checkBlocks s medium site j (k + 1) before) e
+
+  -- ---- the writing walk: the sums of a side over the records that are left
+  pub run-turn : (side n k : ℕ) (t : Running) → k < n → runAll s medium side t (recordsFrom site (n - k) (k + 1)) ≡ runAll s medium side (next s medium side t (recordAt site (k + 1))) (recordsFrom site (n - (k + 1)) (k + 1 + 1))
+  unfolding recordsFrom
+  run-turn side n k t l =
+      let e : n - k ≡ suc (n - (k + 1)) = omega arith in
+      ap (λ (j : ℕ). runAll s medium side t (recordsFrom site j (k + 1))) e
+
+  pub run-none : (side n k : ℕ) (t : Running) → n ≤ k → runAll s medium side t (recordsFrom site (n - k) (k + 1)) ≡ t
+  unfolding recordsFrom
+  run-none side n k t l =
+      let e : n - k ≡ 0 = omega arith in
+      ap (λ (j : ℕ). runAll s medium side t (recordsFrom site j (k + 1))) e

@@ -1,0 +1,70 @@
+-- `site::put_results` meets its contract. Assumes nothing.
+use mathlib.Core.Path.{_≡_, refl, sym, ap, ap₂, _∙_}
+use mathlib.Core.List.{List, _++_}
+use Prim.Native.Nat.{ℕ, _+_, _*_, _≤_}
+use native.Mathlib.Omega.{arith}
+use lib.ListN.{length, take, drop, length-append}
+use lib.Seq.{length-take-le}
+use Rattle.words.specs.Bytes.{over}
+use Rattle.words.proofs.Written.{over-length}
+use Rattle.writers.specs.Blocks.{summaryBlock}
+use Rattle.writers.proofs.ResultsBack.{summary-length}
+use Rattle.sums.specs.Share.{Running, start, runAll}
+use Rattle.sums.specs.ListCall.{accepted}
+use Rattle.sums.specs.State.{reportedOf}
+use Rattle.sums.proofs.Steps.{ready-size}
+use Rattle.site.specs.Results.{resultsTo}
+use Rattle.site.specs.Check.{recordsFrom}
+use Rattle.site.proofs.Output.{results-long, summary-lent}
+use Rattle.sums.specs.declared.shares.Plan.{Plan}
+use Rattle.sums.specs.declared.SideSums.{SideSums}
+use borrow.Author.Needs.{needs}
+use Rattle.site.proofs.put_results.Statement.{statement}
+use Rattle.site.proofs.put_results.Tie as tie
+
+-- the output after the result blocks, and after the summary
+module _ (p : Plan) (site : List ℕ) (count : ℕ) (d : List ℕ) {out : List ℕ} (was : out ≡ over (take 512 d ++ resultsTo (p .scenario) (p .medium) site count) d) (room : 512 * count + 512 ≤ length d) where
+  long-out : length out ≡ length d
+  long-out =
+      let t = length-take-le 512 d (omega (arith, room)) in
+      ap length was ∙ over-length (take 512 d ++ resultsTo (p .scenario) (p .medium) site count) d (omega (arith, length-append (take 512 d) (resultsTo (p .scenario) (p .medium) site count), t, results-long (p .scenario) (p .medium) site count, room))
+
+  written : (risk hazard : SideSums) {y : List ℕ} → y ≡ over (summaryBlock risk hazard) (take 512 out) → y ++ drop 512 out ≡ over (summaryBlock risk hazard ++ resultsTo (p .scenario) (p .medium) site count) d
+  written risk hazard {y} e = summary-lent d out y (resultsTo (p .scenario) (p .medium) site count) risk hazard (omega (arith, room)) long-out was e
+
+  written-long : (risk hazard : SideSums) {y : List ℕ} → y ≡ over (summaryBlock risk hazard) (take 512 out) → length (y ++ drop 512 out) ≡ length d
+  written-long risk hazard e =
+      ap length (written risk hazard e) ∙ over-length (summaryBlock risk hazard ++ resultsTo (p .scenario) (p .medium) site count) d
+      (omega (arith, length-append (summaryBlock risk hazard) (resultsTo (p .scenario) (p .medium) site count), summary-length risk hazard, results-long (p .scenario) (p .medium) site count, room))
+
+put-blocks-requires : tie.Need-put-blocks-requires
+put-blocks-requires c κs = c .before .before .before .pre
+
+reported-requires : tie.Need-reported-requires
+reported-requires c κs = (ready-size (omega (arith, c .before .before .before .before .before .before .pre .0 .most)) (c .before .before .put-blocks .ensures .0 .ready .risk), ready-size (omega (arith, c .before .before .before .before .before .before .pre .0 .most)) (c .before .before .put-blocks .ensures .0 .ready .hazard))
+
+sub-put-summary : tie.Need-sub-put-summary
+sub-put-summary c = search needs
+
+part-put-summary-start : tie.Need-part-put-summary-start
+part-put-summary-start c = search needs
+
+part-put-summary-end : tie.Need-part-put-summary-end
+part-put-summary-end c =
+    let n : length (c .before .before .before .before .before .put-blocks .last .1 .1 .1 .0) ≡ length (c .before .before .before .before .before .before .before .before .before .args .out .now) = long-out (c .before .before .before .before .before .before .before .before .before .args .p) (c .before .before .before .before .before .before .before .before .before .args .site .now) (c .before .before .before .before .before .before .before .before .before .args .count) (c .before .before .before .before .before .before .before .before .before .args .out .now) (c .before .before .before .before .before .put-blocks .ensures .1) (c .before .before .before .before .before .before .before .before .before .pre .1) in
+    omega (arith, n, c .before .before .before .before .before .before .before .before .before .pre .1)
+
+put-summary-requires : tie.Need-put-summary-requires
+put-summary-requires c κs =
+    let n : length (c .before .before .before .before .before .before .put-blocks .last .1 .1 .1 .0) ≡ length (c .before .before .before .before .before .before .before .before .before .before .args .out .now) = long-out (c .before .before .before .before .before .before .before .before .before .before .args .p) (c .before .before .before .before .before .before .before .before .before .before .args .site .now) (c .before .before .before .before .before .before .before .before .before .before .args .count) (c .before .before .before .before .before .before .before .before .before .before .args .out .now) (c .before .before .before .before .before .before .put-blocks .ensures .1) (c .before .before .before .before .before .before .before .before .before .before .pre .1) in
+    let q = length-take-le 512 (c .before .before .before .before .before .before .put-blocks .last .1 .1 .1 .0) (omega (arith, n, c .before .before .before .before .before .before .before .before .before .before .pre .1)) in
+    omega (arith, q)
+
+same-length : tie.Need-same-length
+same-length c = written-long (c .before .before .before .before .before .before .before .before .before .before .before .before .before .args .p) (c .before .before .before .before .before .before .before .before .before .before .before .before .before .args .site .now) (c .before .before .before .before .before .before .before .before .before .before .before .before .before .args .count) (c .before .before .before .before .before .before .before .before .before .before .before .before .before .args .out .now) (c .before .before .before .before .before .before .before .before .before .put-blocks .ensures .1) (c .before .before .before .before .before .before .before .before .before .before .before .before .before .pre .1) _ _ (c .before .before .put-summary .ensures)
+
+returns : tie.Need-returns
+returns c = (c .before .before .before .before .before .before .reported .ensures ∙ ap₂ (accepted (c .before .before .before .before .before .before .before .before .before .before .before .before .before .args .p .scenario)) (c .before .before .before .before .before .before .before .before .before .put-blocks .ensures .0 .risk) (c .before .before .before .before .before .before .before .before .before .put-blocks .ensures .0 .hazard), written (c .before .before .before .before .before .before .before .before .before .before .before .before .before .args .p) (c .before .before .before .before .before .before .before .before .before .before .before .before .before .args .site .now) (c .before .before .before .before .before .before .before .before .before .before .before .before .before .args .count) (c .before .before .before .before .before .before .before .before .before .before .before .before .before .args .out .now) (c .before .before .before .before .before .before .before .before .before .put-blocks .ensures .1) (c .before .before .before .before .before .before .before .before .before .before .before .before .before .pre .1) _ _ (c .before .before .put-summary .ensures))
+
+pub put-results-spec : {M : Type 1} → statement M
+put-results-spec = tie.close (tie.spec put-blocks-requires reported-requires sub-put-summary part-put-summary-start part-put-summary-end put-summary-requires same-length returns)
