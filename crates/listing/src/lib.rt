@@ -1,0 +1,1 @@
+// The listing of a site: its guidelines, sums and verdicts as text.
