@@ -5,7 +5,7 @@ from .decimals import DOWN, UP, ZERO, divide, in_range, keeps_input_rule, workin
 from .terms import CONTAMINANT_VALUES, HAZARD, RISK, SCENARIO_FACTORS, SIDES, has_pathway, inputs_of, term_sum, terms_of
 
 # Refusals, by the paper's numbers.
-ACCEPTED, LENGTH, FIELD, FACTOR, ORDER, PATHWAY, RANGE = 0, 1, 4, 6, 7, 8, 9
+ACCEPTED, LENGTH, CHECK, KIND, FIELD, COUNT, FACTOR, ORDER, PATHWAY, RANGE, ROOM = range(11)
 REQUIRED_FACTORS = ("EF", "ED", "BW", "AT", "TR", "THI")
 TARGET = {RISK: "TR", HAZARD: "THI"}
 

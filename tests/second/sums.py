@@ -61,13 +61,27 @@ def add_record(scenario, medium, record, running):
     return all(in_range(d) for d in seen)
 
 
+def empty_sums():
+    """The running sums before the first record, by side and direction."""
+    return {(side, direction): ZERO for side in SIDES for direction in (DOWN, UP)}
+
+
+def accepted(scenario, medium, records, running):
+    """The answer when no record was refused: the sums as they stand after the last record, and the verdicts."""
+    verdicts = []
+    for side in SIDES:
+        no_pathway = not any(has_pathway(medium, r["class"], side, inputs_of(scenario, r)) for r in records)
+        verdicts.append(verdict(no_pathway, running[side, DOWN], running[side, UP], scenario[TARGET[side]]))
+    return Sums(ACCEPTED, 0, tuple(running.values()), tuple(verdicts))
+
+
 def sums(scenario, medium, records):
     if not 1 <= len(records) <= 120:
         return refused(LENGTH, 0)
     number = scenario_refusal(scenario, medium)
     if number != ACCEPTED:
         return refused(number, 0)
-    running = {(side, direction): ZERO for side in SIDES for direction in (DOWN, UP)}
+    running = empty_sums()
     previous_id = None
     # The n-th record counts as block n.
     for block, record in enumerate(records, 1):
@@ -77,8 +91,4 @@ def sums(scenario, medium, records):
         if not add_record(scenario, medium, record, running):
             return refused(RANGE, block)
         previous_id = record["id"]
-    verdicts = []
-    for side in SIDES:
-        no_pathway = not any(has_pathway(medium, r["class"], side, inputs_of(scenario, r)) for r in records)
-        verdicts.append(verdict(no_pathway, running[side, DOWN], running[side, UP], scenario[TARGET[side]]))
-    return Sums(ACCEPTED, 0, tuple(running.values()), tuple(verdicts))
+    return accepted(scenario, medium, records, running)
