@@ -384,15 +384,19 @@ def one_side(source):
 def one_fault(source):
     """Every fault of a header; every fault of a contaminant in the first, a middle or the last block.
 
-    A fault of a decimal, an unused byte, the class or the id takes one of these places, every other fault all three.
+    A fault of a decimal, an unused byte, the class or the id takes one of these places, every other fault all three. What
+    comes early is every refusal in every place, and each sort of fault in some field before the same in another field.
     """
     cases = []
     for place in range(4):
-        for number, fault in enumerate(full_site(source, 3).faults(place)):
-            if place == 0 or fault.number != FIELD or number % 3 == place - 1:
-                cases.append((place, number, fault.number))
-    # Every refusal in every place comes early.
-    for place, number, _ in dealt(shuffled(source, cases), key=lambda case: (case[0], case[2])):
+        faults = full_site(source, 3).faults(place)
+        in_fields = [number for number, fault in enumerate(faults) if fault.number == FIELD]
+        elsewhere = {number for rank, number in enumerate(in_fields) if place > 0 and rank % 3 != place - 1}
+        # The first word of a fault's name is the field or word, the rest says what is wrong with it.
+        cases += [(place, number, fault.number, fault.name.partition(" ")[2])
+                  for number, fault in enumerate(faults) if number not in elsewhere]
+    by_sort = dealt(shuffled(source, cases), key=lambda case: (case[2], case[3]))
+    for place, number, _, _ in dealt(by_sort, key=lambda case: (case[0], case[2])):
         site = full_site(source, 3)
         fault = site.faults(place)[number]
         yield lent(source, f"one fault: {fault.name}" + refusal(fault.number, place), site.with_faults({place: [fault]}))
@@ -411,7 +415,8 @@ def two_in_one_block(source):
     """Two faults in one block: the lower number is sent back."""
     cases = [(place, pair) for place in (0, 1, 2, 3) for pair in itertools.combinations(numbers_at(place), 2)]
     endless = (source.choice(cases) for _ in itertools.count())
-    for place, pair in itertools.chain(shuffled(source, cases), endless):
+    # Every pair comes early.
+    for place, pair in itertools.chain(dealt(shuffled(source, cases), key=lambda case: case[1]), endless):
         site = full_site(source, 3)
         one, other = (fault_with(source, site, place, number) for number in pair)
         while not are_apart(site.blocks()[place], one, other):
@@ -425,7 +430,8 @@ def faults_in_two_blocks(source):
     places = [(0, 1), (0, 3), (1, 2), (1, 3), (2, 3)]
     cases = [(early, late, pair) for early, late in places for pair in itertools.product(numbers_at(early), numbers_at(late))]
     endless = (source.choice(cases) for _ in itertools.count())
-    for early, late, pair in itertools.chain(shuffled(source, cases), endless):
+    # Every pair comes early.
+    for early, late, pair in itertools.chain(dealt(shuffled(source, cases), key=lambda case: case[2]), endless):
         site = full_site(source, 3)
         one, other = fault_with(source, site, early, pair[0]), fault_with(source, site, late, pair[1])
         name = f"two blocks: {one.name}, then {other.name}" + refusal(pair[0], early)
@@ -615,8 +621,8 @@ def random_sites(source):
 # Each family and how many of its sites come in one round.
 FAMILIES = (
     (missing_values, 4), (missing_factors, 2), (extreme_decimals, 1), (near_target, 2), (near_concentration, 1),
-    (exact_targets, 1), (hard_roundings, 1), (small_shares, 1), (zero_concentrations, 1), (one_side, 1), (one_fault, 4),
-    (two_in_one_block, 1), (faults_in_two_blocks, 1), (short_output, 1), (long_output, 1), (lengths, 1),
+    (exact_targets, 1), (hard_roundings, 1), (small_shares, 1), (zero_concentrations, 1), (one_side, 1), (one_fault, 6),
+    (two_in_one_block, 2), (faults_in_two_blocks, 2), (short_output, 1), (long_output, 1), (lengths, 1),
     (length_and_faults, 1), (id_orders, 1), (many_blocks, 1), (bit_flips, 1), (kept_totals, 1), (exchanged_blocks, 1),
     (plausible_sites, 1), (random_sites, 2),
 )
