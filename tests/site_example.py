@@ -2,7 +2,7 @@
 from guideline_records import Case
 from second.blocks import BLOCK, write_contaminant, write_header
 from second.decimals import Decimal
-from site_maker import PERSON, SCENARIOS
+from site_parts import PERSON, SCENARIOS
 
 EXAMPLE_TEXT = """\
 1 risk 5.72319997E+0 - - 5.72319997E+0

@@ -3,7 +3,7 @@ import struct
 from typing import Callable, NamedTuple
 
 from guideline_records import REQUIRED
-from second.blocks import CONTAMINANT, FIELDS, HEADER, LAST_WORD, WORD, sealed, word
+from second.blocks import CONTAMINANT, FIELDS, HEADER, LAST_WORD, WORD, with_last_word, word
 from second.guideline import CHECK, COUNT, FACTOR, FIELD, KIND, ORDER, PATHWAY
 from second.terms import CONTAMINANT_VALUES, SCENARIO_FACTORS
 
@@ -41,7 +41,12 @@ class Fault(NamedTuple):
     number: int  # of the refusal
     name: str
     change: Callable  # from the bytes of a sound block to the changed bytes
-    after_sealing: bool = False  # for a wrong last word, which sealing would put right
+    after_last_word: bool = False  # for a wrong last word: made when all else is done
+
+    def sort(self):
+        """What is wrong, whichever the decimal: the name without the decimal's."""
+        rest = self.name.partition(" ")[2]
+        return rest if rest in BROKEN_FIELDS else self.name
 
 
 def put(at, content):
@@ -136,12 +141,12 @@ def contaminant_faults(place, medium, klass, previous_id):
 
 
 def damaged(block, faults):
-    """The block with these faults, sealed but for a fault of its last word."""
+    """The block with these faults, its last word right but for a fault of the last word."""
     for fault in faults:
-        block = block if fault.after_sealing else fault.change(block)
-    block = sealed(block)
+        block = block if fault.after_last_word else fault.change(block)
+    block = with_last_word(block)
     for fault in faults:
-        block = fault.change(block) if fault.after_sealing else block
+        block = fault.change(block) if fault.after_last_word else block
     return block
 
 

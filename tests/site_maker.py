@@ -10,70 +10,16 @@ import itertools
 import random
 import re
 
-from guideline_records import HARD_NUMBERS, REQUIRED, Case, random_decimal, random_valid_case, with_carry
-from second.blocks import BLOCK, WORD, contaminant_block, header_block, sealed, word
+from guideline_records import HARD_NUMBERS, Case, random_decimal, random_valid_case, with_carry
+from second.blocks import BLOCK, WORD, with_last_word, word
 from second.decimals import DOWN, UP, ZERO, Decimal, keeps_input_rule, rounded, value
-from second.guideline import ACCEPTED, CHECK, COUNT, FIELD, KIND, LENGTH, ORDER, ROOM, TARGET, has_any_pathway
+from second.guideline import ACCEPTED, CHECK, COUNT, KIND, LENGTH, ORDER, ROOM, TARGET
 from second.sites import LONGEST
 from second.sums import sums
-from second.terms import (CHEMICAL, CONTAMINANT_VALUES, HAZARD, RADIONUCLIDE, RISK, SCENARIO_FACTORS, SIDES, SOIL, WATER,
-                          exact_term_sum, has_pathway, inputs_of)
-from site_faults import are_apart, contaminant_faults, damaged, header_faults, put_word
-
-MEDIA = {SOIL: "soil", WATER: "water"}
-CLASSES = {CHEMICAL: "chemical", RADIONUCLIDE: "radionuclide"}
-KINDS = list(itertools.product(MEDIA, CLASSES))
-ONE = Decimal(1, 0)
-
-# The built-in scenarios of paper 01, and one in which every factor is known.
-PERSON = {"BW": Decimal(70, 0), "AT": Decimal(70, 0), "TR": Decimal(1, -6), "THI": ONE}
-SCENARIOS = (
-    {"EF": Decimal(250, 0), "ED": Decimal(25, 0), "IR": Decimal(50, 0), "IRA": Decimal(20, 0), "PEF": Decimal(428, 7)},
-    {"EF": Decimal(250, 0), "ED": ONE, "IR": Decimal(200, 0), "IRA": Decimal(15, 0), "PEF": Decimal(5, 6),
-     "ET": Decimal(8, 0), "RF": ONE},
-    {"EF": Decimal(50, 0), "ED": Decimal(5, 0), "IR": Decimal(25, 0), "IRA": Decimal(5, 0), "PEF": Decimal(2, 7),
-     "ET": Decimal(4, 0), "RF": Decimal(8, -1)},
-    {"EF": Decimal(350, 0), "ED": Decimal(30, 0), "IR": Decimal(2, 0), "IRA": Decimal(15, 0), "PEF": Decimal(463, 7),
-     "ET": Decimal(25, -1), "RF": Decimal(7, -1), "SA": Decimal(19400, 0)},
-)
-FULL = len(SCENARIOS) - 1
-
-# The powers of ten between which plausible contaminant values lie, by class.
-PLAUSIBLE = {
-    CHEMICAL: {"SFo": (-4, 1), "SFi": (-4, 1), "SFx": (-9, -7), "RfDo": (-5, -1), "RfDi": (-5, -1), "VF": (3, 6),
-               "PC": (-4, -1), "C": (-2, 3)},
-    RADIONUCLIDE: {"SFo": (-12, -9), "SFi": (-12, -9), "SFx": (-11, -8), "RfDo": (-5, -1), "RfDi": (-5, -1), "VF": (3, 6),
-                   "PC": (-4, -1), "C": (1, 6)},
-}
-
-
-class Site:
-    """A scenario, a medium and records in the words of the paper, before they are bytes."""
-
-    def __init__(self, medium, scenario, records):
-        self.medium = medium
-        self.scenario = {name: scenario.get(name, ZERO) for name in SCENARIO_FACTORS}
-        self.records = [Case(medium, {}, record).record for record in records]
-
-    def blocks(self):
-        contaminants = [contaminant_block(place, record) for place, record in enumerate(self.records, 1)]
-        return [header_block(self.medium, len(self.records), self.scenario), *contaminants]
-
-    def content(self):
-        return b"".join(self.blocks())
-
-    def faults(self, place):
-        """Every fault of the block at this place."""
-        if place == 0:
-            return list(header_faults(len(self.records)))
-        record = self.records[place - 1]
-        previous_id = self.records[place - 2]["id"] if place > 1 else None
-        return list(contaminant_faults(place, self.medium, record["class"], previous_id))
-
-    def with_faults(self, faults):
-        """The bytes with these faults, which stand by place."""
-        blocks = [damaged(block, faults[place]) if place in faults else block for place, block in enumerate(self.blocks())]
-        return b"".join(blocks)
+from second.terms import (CHEMICAL, CONTAMINANT_VALUES, RADIONUCLIDE, RISK, SCENARIO_FACTORS, SIDES, WATER, exact_term_sum,
+                          has_pathway, inputs_of)
+from site_faults import BROKEN_FIELDS, are_apart, put_word
+from site_parts import CLASSES, KINDS, MEDIA, ONE, Site, full_site, plausible_site, quick_site, some_ids, with_decimals
 
 
 def planned(name):
@@ -119,62 +65,12 @@ def shuffled(source, things):
     return things
 
 
-def dealt(things, key):
+def interleaved(things, key):
     """The things in an order in which each key comes once before any comes again."""
     groups = {}
     for thing in things:
         groups.setdefault(key(thing), []).append(thing)
     return [thing for row in itertools.zip_longest(*groups.values()) for thing in row if thing is not None]
-
-
-def plausible(source, low, high):
-    """A decimal worth 10^low to 10^(high + 1), with one to nine digits."""
-    digits = source.choice((1, 2, 3, 9))
-    return Decimal(source.randint(10**(digits - 1), 10**digits - 1), source.randint(low, high) - digits + 1)
-
-
-def some_ids(source, count):
-    """Rising ids: from 1, across a byte, across the sign of a word, up to the greatest, or anywhere."""
-    start = source.choice((1, 1, 255, 65_535, 2**31 - 1, 2**31, WORD - count, None))
-    if start is None:
-        return sorted(source.sample(range(1, WORD), count))
-    return list(range(start, start + count))
-
-
-def full_record(source, klass, number):
-    """A record in which every value is known and plausible."""
-    values = {name: plausible(source, *PLAUSIBLE[klass][name]) for name in CONTAMINANT_VALUES}
-    return {"class": klass, "id": number, **values}
-
-
-def some_scenario(source):
-    """One of the fixed scenarios, at times with nine digits in its factors."""
-    scenario = {**PERSON, **source.choice(SCENARIOS)}
-    if source.randrange(2):
-        scenario = {name: Decimal(d.m * 10**5 + source.randrange(10**5), d.e - 5) if d.m < 10**4 else d
-                    for name, d in scenario.items()}
-    return scenario
-
-
-def full_site(source, count, medium=None, klass=None):
-    """Every factor and value known, so that every record has a pathway."""
-    medium = medium or source.choice(list(MEDIA))
-    ids = some_ids(source, count)
-    records = [full_record(source, klass or source.choice(list(CLASSES)), number) for number in ids]
-    return Site(medium, {**PERSON, **SCENARIOS[FULL]}, records)
-
-
-def plausible_site(source, count):
-    """Plausible records, some values missing, each with a pathway."""
-    medium, scenario = source.choice(list(MEDIA)), some_scenario(source)
-    records = []
-    for number in some_ids(source, count):
-        record = None
-        while record is None or not has_any_pathway(medium, record, inputs_of(Site(medium, scenario, []).scenario, record)):
-            record = full_record(source, source.choice(list(CLASSES)), number)
-            record.update({name: ZERO for name in CONTAMINANT_VALUES if source.randrange(5) == 0})
-        records.append(record)
-    return Site(medium, scenario, records)
 
 
 def missing_values(source):
@@ -183,6 +79,8 @@ def missing_values(source):
     for (medium, klass), known in shuffled(source, itertools.product(KINDS, itertools.product((True, False), repeat=7))):
         site = full_site(source, source.choice((1, 1, 2)), medium, klass)
         site.records[-1].update({name: ZERO for name, is_known in zip(names, known) if not is_known})
+        if source.randrange(2):
+            site.scenario["PEF"] = ZERO
         kept = " ".join(name for name, is_known in zip(names, known) if is_known) or "nothing"
         yield lent(source, f"missing values: {MEDIA[medium]} {CLASSES[klass]}, known {kept}", site.content())
 
@@ -197,14 +95,6 @@ def missing_factors(source):
         site.scenario.update({name: ZERO for name, is_known in zip(names, known) if not is_known})
         kept = " ".join(name for name, is_known in zip(names, known) if is_known) or "nothing"
         yield lent(source, f"missing factors: {MEDIA[medium]} {CLASSES[klass]}, known {kept}", site.content())
-
-
-def with_decimals(site, decimals):
-    """The site with these decimals by name, in the scenario and in every record."""
-    site.scenario.update({name: d for name, d in decimals.items() if name in SCENARIO_FACTORS})
-    for record in site.records:
-        record.update({name: d for name, d in decimals.items() if name in CONTAMINANT_VALUES})
-    return site
 
 
 def extreme_decimals(source):
@@ -348,7 +238,7 @@ def hard_roundings(source):
 def small_shares(source):
     """One great share and many small ones, each of which moves the upper sum by one unit and the lower by none."""
     for count in itertools.chain((3, 120), (source.choice((2, 3, 5, 12)) for _ in itertools.count())):
-        site = light_site(source, count)
+        site = quick_site(source, count)
         with_decimals(site, {"IR": ONE, "EF": ONE, "ED": ONE, "SFo": Decimal(100_000_000 + source.randrange(3), -15)})
         for record in site.records:
             record["C"] = Decimal(source.randint(1, 999), -20)
@@ -382,22 +272,20 @@ def one_side(source):
 
 
 def one_fault(source):
-    """Every fault of a header; every fault of a contaminant in the first, a middle or the last block.
+    """Every fault of a header; every fault of a contaminant in the first, a middle and the last block.
 
-    A fault of a decimal, an unused byte, the class or the id takes one of these places, every other fault all three. What
-    comes early is every refusal in every place, and each sort of fault in some field before the same in another field.
+    But a fault of a decimal takes only one of these three places. Every refusal in every place comes early, and every sort
+    of fault in some decimal before the same in another one.
     """
-    cases = []
-    for place in range(4):
-        faults = full_site(source, 3).faults(place)
-        in_fields = [number for number, fault in enumerate(faults) if fault.number == FIELD]
-        elsewhere = {number for rank, number in enumerate(in_fields) if place > 0 and rank % 3 != place - 1}
-        # The first word of a fault's name is the field or word, the rest says what is wrong with it.
-        cases += [(place, number, fault.number, fault.name.partition(" ")[2])
-                  for number, fault in enumerate(faults) if number not in elsewhere]
-    by_sort = dealt(shuffled(source, cases), key=lambda case: (case[2], case[3]))
-    for place, number, _, _ in dealt(by_sort, key=lambda case: (case[0], case[2])):
-        site = full_site(source, 3)
+    cases, counts = [], (1, 1, 3, 3)
+    for place, count in enumerate(counts):
+        faults = full_site(source, count).faults(place)
+        of_decimals = [number for number, fault in enumerate(faults) if fault.sort() in BROKEN_FIELDS]
+        elsewhere = {number for rank, number in enumerate(of_decimals) if place > 0 and rank % 3 != place - 1}
+        cases += [(place, number, fault) for number, fault in enumerate(faults) if number not in elsewhere]
+    by_sort = interleaved(shuffled(source, cases), key=lambda case: case[2].sort())
+    for place, number, _ in interleaved(by_sort, key=lambda case: (case[0], case[2].number)):
+        site = full_site(source, counts[place])
         fault = site.faults(place)[number]
         yield lent(source, f"one fault: {fault.name}" + refusal(fault.number, place), site.with_faults({place: [fault]}))
 
@@ -416,7 +304,7 @@ def two_in_one_block(source):
     cases = [(place, pair) for place in (0, 1, 2, 3) for pair in itertools.combinations(numbers_at(place), 2)]
     endless = (source.choice(cases) for _ in itertools.count())
     # Every pair comes early.
-    for place, pair in itertools.chain(dealt(shuffled(source, cases), key=lambda case: case[1]), endless):
+    for place, pair in itertools.chain(interleaved(shuffled(source, cases), key=lambda case: case[1]), endless):
         site = full_site(source, 3)
         one, other = (fault_with(source, site, place, number) for number in pair)
         while not are_apart(site.blocks()[place], one, other):
@@ -431,7 +319,7 @@ def faults_in_two_blocks(source):
     cases = [(early, late, pair) for early, late in places for pair in itertools.product(numbers_at(early), numbers_at(late))]
     endless = (source.choice(cases) for _ in itertools.count())
     # Every pair comes early.
-    for early, late, pair in itertools.chain(dealt(shuffled(source, cases), key=lambda case: case[2]), endless):
+    for early, late, pair in itertools.chain(interleaved(shuffled(source, cases), key=lambda case: case[2]), endless):
         site = full_site(source, 3)
         one, other = fault_with(source, site, early, pair[0]), fault_with(source, site, late, pair[1])
         name = f"two blocks: {one.name}, then {other.name}" + refusal(pair[0], early)
@@ -460,14 +348,9 @@ def long_output(source):
         yield f"long output: {room} for {len(content)}; accepted", content, room
 
 
-def light_site(source, count):
-    """A site that is quick to work out: radionuclides in water have one pathway."""
-    return full_site(source, count, WATER, RADIONUCLIDE)
-
-
 def wrong_lengths(source):
     """(what, bytes) of sites whose length is refused."""
-    small, large, larger = (light_site(source, count).content() for count in (2, 121, 129))
+    small, large, larger = (quick_site(source, count).content() for count in (2, 121, 129))
     for length in (0, 1, 4, 511, 512, 513, 1023, 1025, 1279, 1535):
         yield "cut", small[:length]
         yield "zero", bytes(length)
@@ -482,16 +365,16 @@ def wrong_lengths(source):
 
 def right_lengths(source):
     """(what, bytes) of sites whose length is right; the count, or the kind of the first block, may be wrong."""
-    two = light_site(source, 2)
+    two = quick_site(source, 2)
     one = Site(two.medium, two.scenario, two.records[:1])
     yield "shortest; accepted", one.content()
     yield "two records; accepted", two.content()
     yield "count 1 with two records" + refusal(COUNT, 0), one.content() + two.blocks()[2]
     yield "count 1 and a zero block" + refusal(COUNT, 0), one.content() + bytes(BLOCK)
     yield "count 2 with one record" + refusal(COUNT, 0), two.content()[:1024]
-    yield "longest; accepted", light_site(source, 120).content()
-    yield "one block under the longest; accepted", light_site(source, 119).content()
-    yield "count 120 with 119 records" + refusal(COUNT, 0), light_site(source, 120).content()[:-BLOCK]
+    yield "longest; accepted", quick_site(source, 120).content()
+    yield "one block under the longest; accepted", quick_site(source, 119).content()
+    yield "count 120 with 119 records" + refusal(COUNT, 0), quick_site(source, 120).content()[:-BLOCK]
     for length in (1024, 1536, LONGEST):
         yield "zero" + refusal(KIND, 0), bytes(length)
         yield "255 throughout" + refusal(CHECK, 0), b"\xff" * length
@@ -528,7 +411,7 @@ def id_orders(source):
 def many_blocks(source):
     """One damaged block among many sound ones, or none."""
     for count in itertools.chain((120, 20), (source.choice((8, 8, 12, 12, 20, 30, 60, 120)) for _ in itertools.count())):
-        site = (light_site if count > 20 and source.randrange(4) else full_site)(source, count)
+        site = (quick_site if count > 20 and source.randrange(4) else full_site)(source, count)
         place = source.choice((0, 1, source.randint(1, count), source.randint(1, count), count, None))
         if place is None:
             yield lent(source, f"many blocks: {count}; accepted", site.content())
@@ -549,7 +432,7 @@ def bit_flips(source):
         block = bytearray(blocks[place])
         block[at] ^= bit
         repaired = source.randrange(3) > 0
-        blocks[place] = sealed(bytes(block)) if repaired else bytes(block)
+        blocks[place] = with_last_word(bytes(block)) if repaired else bytes(block)
         ending = ", last word put right" if repaired else refusal(CHECK, place)
         yield lent(source, f"bit flips: byte {at} of block {place} by {bit}{ending}", b"".join(blocks))
 

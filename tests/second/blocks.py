@@ -22,7 +22,7 @@ def words_total(block):
     return sum(struct.unpack("<128I", block)) % WORD
 
 
-def sealed(block):
+def with_last_word(block):
     """The block with the last word that makes its words add to zero."""
     others = sum(struct.unpack_from("<127I", block))
     return block[:LAST_WORD] + struct.pack("<I", -others % WORD)
@@ -46,9 +46,9 @@ def unused_are_zero(block, fields):
 
 
 def made(kind, place, at_8, at_12, decimals, after_fields=b""):
-    """A block with these words and fields; every other byte is zero, and the last word seals it."""
+    """A block with these words and fields; every other byte is zero, and its words add to zero."""
     content = struct.pack("<4I", kind, place, at_8, at_12) + b"".join(map(field_bytes, decimals)) + after_fields
-    return sealed(content.ljust(BLOCK, b"\0"))
+    return with_last_word(content.ljust(BLOCK, b"\0"))
 
 
 def header_block(medium, count, scenario):
