@@ -256,7 +256,7 @@ def zero_concentrations(source):
             if number % 4 == 1:
                 record["class"] = RADIONUCLIDE
             if number % 4 == 2:
-                # No hazard on one side, or no risk on the other.
+                # Without risk, or without hazard.
                 record.update({name: ZERO for name in source.choice((("SFo", "SFi"), ("RfDo", "RfDi")))})
         yield lent(source, f"zero concentrations: {len(site.records)}", site.content())
 
