@@ -4,7 +4,7 @@ use inputs::Scenario;
 use outcome::Refusal;
 ghost use mathlib.Core.Bool.{_&&_};
 ghost use mathlib.Core.Path.{_≡_};
-ghost use Prim.Native.Nat.{_≤_};
+ghost use Prim.Native.Nat.{_+_, _≤_};
 ghost use lib.Dec.{eqb};
 ghost use lib.ListN.{length};
 ghost use Rattle.words.specs.Words.{partOf};
@@ -68,40 +68,40 @@ fn sound(block: &[u8], place: u32) -> bool
     inputs::both(sum == 0, found == place)
 }
 
-// The scenario in the 504 bytes between kind and last word of a header.
-fn get_scenario(part: &[u8]) -> Scenario
-    requires { ⌜ 504 ≤ length (now part) ⌝ }
-    ensures { λ s. ⌜ s ≡ scenarioAt (now (part .entry)) 12 ⌝ }
+// The scenario whose first factor stands at `at`.
+fn get_scenario(part: &[u8], at: usize) -> Scenario
+    requires { ⌜ (at ≤ 100) × (at + 96 ≤ length (now part)) ⌝ }
+    ensures { λ s. ⌜ s ≡ scenarioAt (now (part .entry)) at ⌝ }
 {
     Scenario {
-        ef: fields::read(part, 12),
-        ed: fields::read(part, 20),
-        bw: fields::read(part, 28),
-        at: fields::read(part, 36),
-        ir: fields::read(part, 44),
-        ira: fields::read(part, 52),
-        pef: fields::read(part, 60),
-        et: fields::read(part, 68),
-        rf: fields::read(part, 76),
-        sa: fields::read(part, 84),
-        tr: fields::read(part, 92),
-        thi: fields::read(part, 100),
+        ef: fields::read(part, at),
+        ed: fields::read(part, at + 8),
+        bw: fields::read(part, at + 16),
+        at: fields::read(part, at + 24),
+        ir: fields::read(part, at + 32),
+        ira: fields::read(part, at + 40),
+        pef: fields::read(part, at + 48),
+        et: fields::read(part, at + 56),
+        rf: fields::read(part, at + 64),
+        sa: fields::read(part, at + 72),
+        tr: fields::read(part, at + 80),
+        thi: fields::read(part, at + 88),
     }
 }
 
-// The header in the 504 bytes between kind and last word.
-fn get_header(part: &[u8]) -> Header
-    requires { ⌜ 504 ≤ length (now part) ⌝ }
-    ensures { λ h. ⌜ h ≡ headerAt (now (part .entry)) 4 ⌝ }
+// The header whose medium stands at `at`: in the 504 bytes between kind and last word at 4.
+pub fn get_header(part: &[u8], at: usize) -> Header
+    requires { ⌜ (at ≤ 90) × (at + 104 ≤ length (now part)) ⌝ }
+    ensures { λ h. ⌜ h ≡ headerAt (now (part .entry)) at ⌝ }
 {
     Header {
-        medium: words::word(part, 4),
-        count: words::word(part, 8),
-        scenario: get_scenario(part),
+        medium: words::word(part, at),
+        count: words::word(part, at + 4),
+        scenario: get_scenario(part, at + 8),
     }
 }
 
-// Whether the unused bytes of a header are zero, in the same 504 bytes.
+// Whether the unused bytes of a header are zero, in the 504 bytes between kind and last word.
 fn header_unused(part: &[u8]) -> bool
     requires { ⌜ 504 ≤ length (now part) ⌝ }
     ensures { λ b. ⌜ b ≡ headerUnused (now (part .entry)) 4 ⌝ }
@@ -112,22 +112,22 @@ fn header_unused(part: &[u8]) -> bool
     )
 }
 
-// The contaminant in the 504 bytes between kind and last word.
-pub fn get_contaminant(part: &[u8]) -> Contaminant
-    requires { ⌜ 504 ≤ length (now part) ⌝ }
-    ensures { λ r. ⌜ r ≡ contaminantAt (now (part .entry)) 4 ⌝ }
+// The contaminant whose class stands at `at`: in the 504 bytes between kind and last word at 4.
+pub fn get_contaminant(part: &[u8], at: usize) -> Contaminant
+    requires { ⌜ (at ≤ 100) × (at + 72 ≤ length (now part)) ⌝ }
+    ensures { λ r. ⌜ r ≡ contaminantAt (now (part .entry)) at ⌝ }
 {
     Contaminant {
-        class: words::word(part, 4),
-        id: words::word(part, 8),
-        sfo: fields::read(part, 12),
-        sfi: fields::read(part, 20),
-        sfx: fields::read(part, 28),
-        rfdo: fields::read(part, 36),
-        rfdi: fields::read(part, 44),
-        vf: fields::read(part, 52),
-        pc: fields::read(part, 60),
-        c: fields::read(part, 68),
+        class: words::word(part, at),
+        id: words::word(part, at + 4),
+        sfo: fields::read(part, at + 8),
+        sfi: fields::read(part, at + 16),
+        sfx: fields::read(part, at + 24),
+        rfdo: fields::read(part, at + 32),
+        rfdi: fields::read(part, at + 40),
+        vf: fields::read(part, at + 48),
+        pc: fields::read(part, at + 56),
+        c: fields::read(part, at + 64),
     }
 }
 
@@ -156,7 +156,7 @@ pub fn read_header(site: &[u8], blocks: u32) -> HeaderRead
         return HeaderRead::Refused(Refusal::Kind);
     }
     let part = &site[4..508];
-    let h = get_header(part);
+    let h = get_header(part, 4);
     let s = h.scenario;
     if !inputs::both(inputs::scenario_fits(s, h.medium), header_unused(part)) {
         return HeaderRead::Refused(Refusal::Field);
@@ -187,7 +187,7 @@ pub fn read_contaminant(site: &[u8], at: usize, place: u32, previous: u32) -> Co
     let from = at + 4;
     let to = at + 508;
     let part = &site[from..to];
-    let r = get_contaminant(part);
+    let r = get_contaminant(part, 4);
     if !inputs::both(inputs::contaminant_fits(r), contaminant_unused(part)) {
         return ContaminantRead::Refused(Refusal::Field);
     }

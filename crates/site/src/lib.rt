@@ -74,7 +74,7 @@ fn put_block(site: &[u8], p: Plan, place: u32, x: Runs, out: &mut [u8]) -> Runs
     let at = 512 * (place as usize);
     let from = at + 4;
     let to = at + 508;
-    let r = blocks::get_contaminant(&site[from..to]);
+    let r = blocks::get_contaminant(&site[from..to], 4);
     let w = sums::shares::work(p, r);
     let g = guideline::columns_of(p.up.factors.tr, p.up.factors.thi, w.above);
     let risk = guideline::decimals(g.risk);

@@ -38,7 +38,7 @@ part-get-contaminant-end c = omega (arith, c .before .before .pre .0 .long)
 get-contaminant-requires : tie.Need-get-contaminant-requires
 get-contaminant-requires c κs =
     let n : length (take (512 * c .before .before .before .args .place + 508 - (512 * c .before .before .before .args .place + 4)) (drop (512 * c .before .before .before .args .place + 4) (c .before .before .before .args .site .now))) ≡ 512 * c .before .before .before .args .place + 508 - (512 * c .before .before .before .args .place + 4) = length-take-le _ (drop (512 * c .before .before .before .args .place + 4) (c .before .before .before .args .site .now)) (simp length-drop (omega (arith, c .before .before .before .pre .0 .long))) in
-    omega (arith, n)
+    (omega arith, omega (arith, n))
 
 work-requires : tie.Need-work-requires
 work-requires c κs = record { ready = c .before .before .before .before .pre .0 .ready; passed = c .before .before .before .before .pre .0 .passed; contaminant = read-ok (c .before .before .before .before .args .site .now) (c .before .before .before .before .args .place) (c .before .before .before .before .pre .0 .ok) (c .get-contaminant .ensures) .fits }
