@@ -11,7 +11,7 @@ ghost use Rattle.site.specs.Results.{siteLeft};
 ghost use Rattle.gv.specs.Exports.{packed, headerSent, headerPut, contaminantSent, contaminantPut, builtInSent, builtInPut};
 
 // The four numbers of an answer in one.
-fn pack(a: sums::SumsAnswer) -> u64
+pub fn pack(a: sums::SumsAnswer) -> u64
     ensures { λ n. ⌜ n ≡ packed a ⌝ }
 {
     let refusal = a.refusal;

@@ -91,11 +91,15 @@ module _ {site : List ℕ} {h : Header} (o : Opened site h) where
   abbrev sums : SumsAnswer
   sums = allSums (h .scenario) (h .medium) (recordsFrom site (h .count) 1)
 
-  answer-opened : (out : ℕ) → siteAnswer site out ≡ withRoom (length site) out (answerOf found sums)
+  -- the answer is that of the walk over its blocks, where there is room
+  pub answer-walked : (out : ℕ) → siteAnswer site out ≡ withRoom (length site) out (walkBlocks (h .scenario) (h .medium) site (h .count) 1 0 start start)
   unfolding siteAnswer
+  answer-walked out = rw (o .right, o .header)
+
+  answer-opened : (out : ℕ) → siteAnswer site out ≡ withRoom (length site) out (answerOf found sums)
   answer-opened out =
-      rw (o .right, o .header)
-      (ap (withRoom (length site) out) (walk-checked (h .scenario) (h .medium) site (facts .valid) (facts .factors) (h .count) 1 0 0 start start (omega (arith, count-most)) fair-start fair-start))
+      answer-walked out ∙
+      ap (withRoom (length site) out) (walk-checked (h .scenario) (h .medium) site (facts .valid) (facts .factors) (h .count) 1 0 0 start start (omega (arith, count-most)) fair-start fair-start)
 
   pub answer-refused : (out : ℕ) → (numberOf (found .refusal) ≡ 0 → ⊥) → siteAnswer site out ≡ refused (found .refusal) (found .block)
   unfolding withRoom

@@ -37,7 +37,8 @@ found-zero {c} e h = sym (ap (λ (x : Checked). numberOf (x .refusal)) e) ∙ eq
 pub found-nonzero : {c d : Checked} → c ≡ d → eqb (numberOf (c .refusal)) 0 ≡ false → numberOf (d .refusal) ≡ 0 → ⊥
 found-nonzero {c} e h z = eqb-false (numberOf (c .refusal)) 0 h (ap (λ (x : Checked). numberOf (x .refusal)) e ∙ z)
 
-first-accepted : (s : Scenario) (medium n : ℕ) → 1 ≤ n → n ≤ 120 → scenarioFits s medium ≡ true → lacksFactor s ≡ false → firstRefusal s medium n ≡ Accepted
+-- the tests of the list call before its first record
+pub first-accepted : (s : Scenario) (medium n : ℕ) → 1 ≤ n → n ≤ 120 → scenarioFits s medium ≡ true → lacksFactor s ≡ false → firstRefusal s medium n ≡ Accepted
 first-accepted s medium n l u fits known = rw (le-leb 1 n l, le-leb n 120 u, fits, known)
 
 module _ {site : List ℕ} {h : Header} {p : Plan} (o : Opened site h) (z : numberOf (checkBlocks (h .scenario) (h .medium) site (h .count) 1 0 .refusal) ≡ 0) (b : Begun (h .scenario) (h .medium) (h .count) p) where

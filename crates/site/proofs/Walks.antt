@@ -38,7 +38,7 @@ answerOf c a = cond (eqb (numberOf (c .refusal)) 0) a (refused (c .refusal) (c .
 pub found-record : (site : List ℕ) (k before : ℕ) (r : Contaminant) → contaminantRead (blockAt site k) k before ≡ C.Found r → ContaminantFacts (blockAt site k) before r
 found-record site k before r e = contaminant-facts (blockAt site k) k before r e
 
-found-is : (site : List ℕ) (k before : ℕ) (r : Contaminant) → contaminantRead (blockAt site k) k before ≡ C.Found r → r ≡ recordAt site k
+pub found-is : (site : List ℕ) (k before : ℕ) (r : Contaminant) → contaminantRead (blockAt site k) k before ≡ C.Found r → r ≡ recordAt site k
 unfolding recordAt
 found-is site k before r e = contaminant-facts (blockAt site k) k before r e .is
 

@@ -1,3 +1,4 @@
 pub mod Site
 pub mod Results
 pub mod Check
+pub mod Written

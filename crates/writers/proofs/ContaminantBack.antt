@@ -1,14 +1,14 @@
 -- Reading what the writer of kind 2 wrote gives the same contaminant, each decimal with the same m and the same e. Assumes nothing.
 use mathlib.Core.Path.{_≡_, refl, ap, ap₂, _∙_}
 use mathlib.Core.List.{List}
-use mathlib.Core.Bool.{Bool, true, false, _&&_, not}
+use mathlib.Core.Bool.{Bool, true, _&&_, not, cond}
 use Prim.Native.Nat.{ℕ, _<_}
 use native.Mathlib.Omega.{arith}
 use lib.ListN.{length, getD, replicate}
 use lib.Dec.{eqb, leb, ltb}
 use borrow.Author.Tests.{eq-eqb, lt-leb, not-false}
 use Rattle.outcome.specs.declared.Refusal.{Refusal}
-use Rattle.outcome.specs.declared.Refusal.the-variants.{Accepted, Field, Room}
+use Rattle.outcome.specs.declared.Refusal.the-variants.{Accepted, Field, Order, Room}
 use Rattle.words.specs.Words.{wordAt, partOf}
 use Rattle.words.specs.Bytes.{over}
 use Rattle.words.proofs.Written.{part-over}
@@ -32,7 +32,11 @@ use Rattle.writers.specs.Answers.{contaminantFit, contaminantAnswer, lef
 use Rattle.writers.proofs.Answers.{refused}
 use Rattle.writers.proofs.ReadBack.{zeros-long, kind-back, first-back, second-back, decimals-back, unused-back, ending-back, block-length, sound-back}
 
-module _ (place previous : ℕ) (r : Contaminant) (fit : contaminantFit place r ≡ true) (small : r .id < 4294967296) (above : previous < r .id) where
+pub contaminant-length : (place : ℕ) (r : Contaminant) → length (contaminantBlock place r) ≡ 512
+unfolding contaminantBlock
+contaminant-length place r = block-length 2 place (r .class) (r .id) (contaminantDecimals r) (replicate 428 0) (zeros-long 8 428 refl)
+
+module _ (place previous : ℕ) (r : Contaminant) (fit : contaminantFit place r ≡ true) (small : r .id < 4294967296) where
   abbrev cb : List ℕ
   cb = contaminantBlock place r
 
@@ -77,10 +81,6 @@ module _ (place previous : ℕ) (r : Contaminant) (fit : contaminantFit place r 
   unused = ap₂ (λ (x y : Bool). x && y) (unused-back 2 place (r .class) (r .id) (contaminantDecimals r) (replicate 428 0))
       (zeros-rest cb _ 80 428 428 (ending-back 2 place (r .class) (r .id) (contaminantDecimals r) (replicate 428 0) 64 refl) (omega arith))
 
-  long : length cb ≡ 512
-  unfolding contaminantBlock
-  long = block-length 2 place (r .class) (r .id) (contaminantDecimals r) (replicate 428 0) (zeros-long 8 428 refl)
-
   sound : soundAt cb place ≡ true
   unfolding contaminantBlock
   sound = sound-back 2 place (r .class) (r .id) (contaminantDecimals r) (replicate 428 0) (zeros-long 8 428 refl) (omega (arith, in-file place placed-well))
@@ -89,16 +89,21 @@ module _ (place previous : ℕ) (r : Contaminant) (fit : contaminantFit place r 
   unfolding contaminantBlock
   kind = kind-back 2 place (r .class) (r .id) (contaminantDecimals r) (replicate 428 0) (omega arith)
 
-  id-above : leb (wordAt cb 12) previous ≡ false
+  read-id : wordAt cb 12 ≡ r .id
   unfolding contaminantAt
-  id-above = ap (λ (x : Contaminant). leb (x .id) previous) read-record ∙ lt-leb (r .id) previous above
+  read-id = ap (λ (x : Contaminant). x .id) read-record
 
-  pub contaminant-back : contaminantRead cb place previous ≡ C.Found r
+  -- only the order is left to be tested
+  pub contaminant-read-back : contaminantRead cb place previous ≡ cond (leb (r .id) previous) (C.Refused Order) (C.Found r)
   unfolding contaminantRead
-  contaminant-back = simp (eq-eqb (length cb) 512 long, sound, eq-eqb (wordAt cb 0) 2 kind, id-above, read-record, valid, unused)
+  contaminant-read-back = simp (eq-eqb (length cb) 512 (contaminant-length place r), sound, eq-eqb (wordAt cb 0) 2 kind, read-id, read-record, valid, unused)
 
-  pub contaminant-back-over : (d : List ℕ) → contaminantRead (partOf (over cb d) 0 512) place previous ≡ C.Found r
-  contaminant-back-over d = ap (λ (l : List ℕ). contaminantRead l place previous) (part-over cb d 512 long) ∙ contaminant-back
+  module _ (above : previous < r .id) where
+    pub contaminant-back : contaminantRead cb place previous ≡ C.Found r
+    contaminant-back = contaminant-read-back ∙ rw (lt-leb (r .id) previous above)
+
+    pub contaminant-back-over : (d : List ℕ) → contaminantRead (partOf (over cb d) 0 512) place previous ≡ C.Found r
+    contaminant-back-over d = ap (λ (l : List ℕ). contaminantRead l place previous) (part-over cb d 512 (contaminant-length place r)) ∙ contaminant-back
 
 -- ---- the same of what the call leaves, where it accepts
 accepted-fits : (out : List ℕ) (place : ℕ) (r : Contaminant) → contaminantAnswer out place r ≡ Accepted → contaminantFit place r ≡ true

@@ -33,6 +33,10 @@ use Rattle.writers.specs.Answers.{headerFit, headerAnswer, leftBy, heade
 use Rattle.writers.proofs.Answers.{refused}
 use Rattle.writers.proofs.ReadBack.{zeros-long, kind-back, first-back, second-back, decimals-back, unused-back, ending-back, block-length, sound-back}
 
+pub header-length : (h : Header) → length (headerBlock h) ≡ 512
+unfolding headerBlock
+header-length h = block-length 1 0 (h .medium) (h .count) (scenarioDecimals (h .scenario)) (replicate 396 0) (zeros-long 12 396 refl)
+
 module _ (h : Header) (fit : headerFit h ≡ true) (known : lacksFactor (h .scenario) ≡ false) where
   abbrev hb : List ℕ
   hb = headerBlock h
@@ -98,10 +102,6 @@ module _ (h : Header) (fit : headerFit h ≡ true) (known : lacksFactor (h .scen
   unused = ap₂ (λ (x y : Bool). x && y) (unused-back 1 0 (h .medium) (h .count) ds (replicate 396 0))
       (zeros-rest hb _ 112 396 396 (ending-back 1 0 (h .medium) (h .count) ds (replicate 396 0) 96 refl) (omega arith))
 
-  long : length hb ≡ 512
-  unfolding headerBlock
-  long = block-length 1 0 (h .medium) (h .count) ds (replicate 396 0) (zeros-long 12 396 refl)
-
   sound : soundAt hb 0 ≡ true
   unfolding headerBlock
   sound = sound-back 1 0 (h .medium) (h .count) ds (replicate 396 0) (zeros-long 12 396 refl) (omega arith)
@@ -123,10 +123,10 @@ module _ (h : Header) (fit : headerFit h ≡ true) (known : lacksFactor (h .scen
 
   pub header-back : headerRead hb (h .count + 1) ≡ H.Found h
   unfolding headerRead
-  header-back = simp (eq-eqb (length hb) 512 long, sound, eq-eqb (wordAt hb 0) 1 kind, fields-good, count-good, factors-good, read-header)
+  header-back = simp (eq-eqb (length hb) 512 (header-length h), sound, eq-eqb (wordAt hb 0) 1 kind, fields-good, count-good, factors-good, read-header)
 
   pub header-back-over : (d : List ℕ) → headerRead (partOf (over hb d) 0 512) (h .count + 1) ≡ H.Found h
-  header-back-over d = ap (λ (l : List ℕ). headerRead l (h .count + 1)) (part-over hb d 512 long) ∙ header-back
+  header-back-over d = ap (λ (l : List ℕ). headerRead l (h .count + 1)) (part-over hb d 512 (header-length h)) ∙ header-back
 
 -- ---- the same of what the call leaves, where it accepts
 accepted-fits : (out : List ℕ) (h : Header) → headerAnswer out h ≡ Accepted → (headerFit h ≡ true) × (lacksFactor (h .scenario) ≡ false)

@@ -1,0 +1,94 @@
+/* Holds the static library to stored answers. Usage: compare CASES EXPECTED
+   A case is the site's length, the output's length (4 bytes each) and the site; its answer is the number that gv_site
+   returns (8 bytes), the output afterwards, the length of the listing (4 bytes) and the listing. Every buffer has exactly
+   its length, so that valgrind sees a byte read or written past it; the output is filled before, with guard bytes behind it. */
+#include "gv.h"
+#include <stdio.h>
+#include <stdlib.h>
+#include <string.h>
+
+enum { FILL = 0xa5, GUARD = 0x5a, GUARDS = 64 };
+
+static void need(void *to, size_t n, FILE *f)
+{
+    if (fread(to, 1, n, f) != n) {
+        fprintf(stderr, "compare: a file ends too early\n");
+        exit(2);
+    }
+}
+
+static uint32_t word(FILE *f)
+{
+    uint8_t b[4];
+    need(b, 4, f);
+    return b[0] | (uint32_t)b[1] << 8 | (uint32_t)b[2] << 16 | (uint32_t)b[3] << 24;
+}
+
+static uint8_t *filled(size_t n)
+{
+    uint8_t *p = malloc(n + GUARDS);
+    memset(p, FILL, n);
+    memset(p + n, GUARD, GUARDS);
+    return p;
+}
+
+static int guarded(const uint8_t *p, size_t n)
+{
+    for (size_t i = 0; i < GUARDS; i++)
+        if (p[n + i] != GUARD)
+            return 0;
+    return 1;
+}
+
+/* The first thing that differs, or null. */
+static const char *differs(const uint8_t *site, uint32_t site_len, uint32_t out_len, uint64_t answer, const uint8_t *left,
+                           const uint8_t *text, uint32_t text_len)
+{
+    const char *what = NULL;
+    uint8_t *out = filled(out_len), *again = filled(out_len), *listed = filled(GV_TEXT_ROOM);
+    if (gv_site(site, site_len, out, out_len) != answer)
+        what = "answer";
+    else if (memcmp(out, left, out_len) != 0)
+        what = "output";
+    else if (gv_list(site, site_len, again, out_len, listed, GV_TEXT_ROOM) != text_len || memcmp(listed, text, text_len) != 0)
+        what = "listing";
+    else if (memcmp(again, left, out_len) != 0)
+        what = "output of the listing";
+    else if (listed[text_len] != FILL)
+        what = "byte after the listing";
+    else if (gv_list(site, site_len, again, out_len, listed, GV_TEXT_ROOM - 1) != 0)
+        what = "length in a short text";
+    else if (!guarded(out, out_len) || !guarded(again, out_len) || !guarded(listed, GV_TEXT_ROOM))
+        what = "guard bytes";
+    free(out), free(again), free(listed);
+    return what;
+}
+
+int main(int argc, char **argv)
+{
+    FILE *cases = argc == 3 ? fopen(argv[1], "rb") : NULL, *expected = argc == 3 ? fopen(argv[2], "rb") : NULL;
+    if (!cases || !expected) {
+        fprintf(stderr, "usage: compare CASES EXPECTED\n");
+        return 2;
+    }
+    unsigned long count = 0, wrong = 0;
+    for (int c; (c = fgetc(cases)) != EOF; count++) {
+        ungetc(c, cases);
+        uint32_t site_len = word(cases), out_len = word(cases);
+        uint8_t *site = malloc(site_len), *left = malloc(out_len);
+        need(site, site_len, cases);
+        uint64_t low = word(expected), answer = low | (uint64_t)word(expected) << 32;
+        need(left, out_len, expected);
+        uint32_t text_len = word(expected);
+        uint8_t *text = malloc(text_len);
+        need(text, text_len, expected);
+        const char *what = differs(site, site_len, out_len, answer, left, text, text_len);
+        if (what) {
+            printf("case %lu: %s differs\n", count, what);
+            wrong++;
+        }
+        free(site), free(left), free(text);
+    }
+    printf("%lu sites, %lu differ\n", count, wrong);
+    return wrong != 0;
+}
