@@ -8,6 +8,7 @@ ghost use Rattle.outcome.specs.Outcome.{numberOf};
 ghost use Rattle.sums.specs.declared.SumsAnswer.{SumsAnswer};
 ghost use Rattle.site.specs.Site.{siteAnswer};
 ghost use Rattle.site.specs.Results.{siteLeft};
+ghost use Rattle.listing.specs.Listing.{textLength, textLeft};
 ghost use Rattle.gv.specs.Exports.{packed, headerSent, headerPut, contaminantSent, contaminantPut, builtInSent, builtInPut};
 
 // The four numbers of an answer in one.
@@ -31,6 +32,15 @@ pub extern "C" fn gv_site(site: &[u8], out: &mut [u8]) -> u64
     ensures { λ n. ⌜ (n ≡ packed (siteAnswer (now (site .entry)) (length (now (out .entry))))) × (now (out .exit) ≡ siteLeft (now (site .entry)) (now (out .entry))) ⌝ }
 {
     pack(site::evaluate(site, out))
+}
+
+// Evaluates a site and lists it: see include/gv.h.
+#[no_mangle]
+pub extern "C" fn gv_list(site: &[u8], out: &mut [u8], text: &mut [u8]) -> u64
+    ensures { λ n. ⌜ (n ≡ textLength (now (site .entry)) (length (now (out .entry))) (now (text .entry))) × ((now (out .exit) ≡ siteLeft (now (site .entry)) (now (out .entry))) × (now (text .exit) ≡ textLeft (now (site .entry)) (length (now (out .entry))) (now (text .entry)))) ⌝ }
+{
+    let listed = listing::list_site(site, out, text);
+    listed.length as u64
 }
 
 // Writes a header block from a struct gv_header.

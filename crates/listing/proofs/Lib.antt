@@ -1,0 +1,5 @@
+pub mod Spelling
+pub mod Chains
+pub mod LineParts
+pub mod Progress
+pub mod Listings

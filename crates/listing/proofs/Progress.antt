@@ -1,0 +1,42 @@
+-- The text while the listing is put: so many bytes from its start on, and nothing else changed. Assumes nothing.
+use mathlib.Core.Path.{_≡_, refl, sym, ap, subst, _∙_}
+use mathlib.Core.List.{List, _++_}
+use Prim.Native.Nat.{ℕ, _+_, _*_, _≤_}
+use native.Mathlib.Omega.{arith}
+use lib.ListN.{length}
+use Rattle.inputs.specs.declared.Scenario.{Scenario}
+use Rattle.words.specs.Bytes.{placed, over}
+use Rattle.words.proofs.Written.{Wrote, wrote-none, wrote-next, over-length}
+use Rattle.listing.specs.Listing.{linesTo}
+use Rattle.listing.specs.Asked.{placeLines}
+use Rattle.listing.proofs.LineParts.{lines-next, lines-to-most}
+
+pub wrote-then : {l p d : List ℕ} {at : ℕ} → Wrote l p d at → (w : List ℕ) {l′ : List ℕ} {end : ℕ} → (end ≡ at + length w) × (l′ ≡ placed l at w) → Wrote l′ (p ++ w) d end
+wrote-then {l} {p} {d} {at} W w {l′} {end} q = subst (Wrote l′ (p ++ w) d) (sym (q .0)) (wrote-next l′ w (length w) W (q .1) refl)
+
+-- put at the very start
+pub wrote-first : (d w : List ℕ) {l′ : List ℕ} {end : ℕ} → (end ≡ 0 + length w) × (l′ ≡ placed d 0 w) → Wrote l′ w d end
+wrote-first d w q = wrote-then (wrote-none d) w q
+
+pub wrote-long : {l p d : List ℕ} {at : ℕ} → Wrote l p d at → at ≤ length d → length l ≡ length d
+wrote-long {l} {p} {d} {at} W h = ap length (W .now) ∙ over-length p d (omega (arith, W .long))
+
+-- the same as a promise has it, for the same bytes said in another way
+pub wrote-all : {l p q d : List ℕ} {at : ℕ} → p ≡ q → Wrote l p d at → (at ≡ length q) × (l ≡ over q d)
+wrote-all {l} {p} {q} {d} {at} e W = subst (λ (t : List ℕ). (at ≡ length t) × (l ≡ over t d)) e (sym (W .long), W .now)
+
+pub wrote-of : (p : List ℕ) {l d : List ℕ} {at : ℕ} → (at ≡ length p) × (l ≡ over p d) → Wrote l p d at
+wrote-of p q = record { now = q .1; long = sym (q .0) }
+
+-- ---- the contaminants, one place after another
+module _ (s : Scenario) (medium : ℕ) (site : List ℕ) where
+  pub none-yet : (d : List ℕ) → Wrote d (linesTo s medium site 0) d 0
+  unfolding linesTo
+  none-yet d = wrote-none d
+
+  pub at-most : {l d : List ℕ} {at : ℕ} (k : ℕ) → Wrote l (linesTo s medium site k) d at → at ≤ 192 * k
+  at-most {l} {d} {at} k W = omega (arith, W .long, lines-to-most s medium site k)
+
+  pub one-place : {l d : List ℕ} {at : ℕ} (k : ℕ) → Wrote l (linesTo s medium site k) d at → {l′ : List ℕ} {end : ℕ} →
+      (end ≡ at + length (placeLines s medium site (k + 1))) × (l′ ≡ placed l at (placeLines s medium site (k + 1))) → Wrote l′ (linesTo s medium site (k + 1)) d end
+  one-place {l} {d} {at} k W {l′} {end} q = subst (λ (t : List ℕ). Wrote l′ t d end) (lines-next s medium site k) (wrote-then W (placeLines s medium site (k + 1)) q)
