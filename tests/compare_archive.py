@@ -19,7 +19,7 @@ def run(*words):
 
 def build():
     BUILD.mkdir(parents=True, exist_ok=True)
-    subprocess.run(["rt", "staticlib", "gv"], cwd=ROOT, check=True, stdout=subprocess.DEVNULL)
+    subprocess.run(["rt", "staticlib", "gv"], cwd=ROOT, check=True, stdout=subprocess.DEVNULL, stderr=subprocess.DEVNULL)
     run("cc", "-O2", "-g", "-Wall", "-Wextra", "-Iinclude", "-o", BUILD / "compare", "tests/archive/compare.c", "target/staticlib/libgv.a")
 
 

@@ -10,3 +10,4 @@ pub mod SameSums
 pub mod Promises
 pub mod OutputBlocks
 pub mod WrittenSite
+pub mod RefusalTable
