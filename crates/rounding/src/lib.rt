@@ -131,11 +131,14 @@ fn aligned(p: Biased, q: Biased, dir: Direction) -> Biased
     cut(p.m + part, p.x, dir)
 }
 
-// p + q.
+// p + q. A zero adds nothing: of the terms that are added up here many are absent.
 pub fn sum(p: Biased, q: Biased, dir: Direction) -> Biased
     requires { ⌜ InRange p × InRange q ⌝ }
     ensures { λ r. ⌜ (r ≡ sumOf dir p q) × SumResult p q r ⌝ }
 {
+    if q.m == 0 {
+        return p;
+    }
     let first = rank(q) <= rank(p);
     let great = choose(first, p, q);
     let small = choose(first, q, p);

@@ -1,9 +1,12 @@
 -- `rounding::sum` meets its contract. Assumes nothing.
 use mathlib.Core.Path.{_∙_}
-use Rattle.rounding.proofs.CodeFacts.{ordered, ordered-sum}
+use Rattle.rounding.proofs.CodeFacts.{ordered, ordered-sum, sum-nothing}
 use borrow.Author.Needs.{needs}
 use Rattle.rounding.proofs.sum.Statement.{statement}
 use Rattle.rounding.proofs.sum.Tie as tie
+
+returns : tie.Need-returns
+returns c = sum-nothing (c .before .before .args .p) (c .before .before .args .q) (c .before .before .pre .0) (c .before .before .pre .1) (c .before .before .args .dir) (c .if1 .taken)
 
 rank-requires : tie.Need-rank-requires
 rank-requires c κs = search needs
@@ -18,25 +21,14 @@ choose-requires-2 : tie.Need-choose-requires-2
 choose-requires-2 c κs = search needs
 
 aligned-requires : tie.Need-aligned-requires
-aligned-requires c κs =
-    let s = c .before .before .before .before in
-    rw (c .before .choose .ensures, c .choose2 .ensures, c .before .before .rank2 .ensures, c .before .before .before .rank .ensures) (ordered (s .args .p) (s .args .q) (s .pre .0) (s .pre .1))
+aligned-requires c κs = rw (c .before .choose .ensures, c .choose2 .ensures, c .before .before .rank2 .ensures, c .before .before .before .rank .ensures) (ordered (c .before .before .before .before .before .before .args .p) (c .before .before .before .before .before .before .args .q) (c .before .before .before .before .before .before .pre .0) (c .before .before .before .before .before .before .pre .1))
 
-returns : tie.Need-returns
-returns c =
-    let s = c .before .before .before .before .before in
+returns-2 : tie.Need-returns-2
+returns-2 c =
     let k = c .before .before .before .before .rank .ensures in
     let l = c .before .before .before .rank2 .ensures in
-    ordered-sum (s .args .p) (s .args .q) (s .pre .0) (s .pre .1) (s .args .dir) (c .before .before .choose .result) (c .before .choose2 .result) (c .aligned .result)
+    ordered-sum (c .before .before .before .before .before .before .before .args .p) (c .before .before .before .before .before .before .before .args .q) (c .before .before .before .before .before .before .before .pre .0) (c .before .before .before .before .before .before .before .pre .1) (c .before .before .before .before .before .before .before .args .dir) (c .before .before .choose .result) (c .before .choose2 .result) (c .aligned .result)
     (c .before .before .choose .ensures ∙ rw (k, l)) (c .before .choose2 .ensures ∙ rw (k, l)) (c .aligned .ensures)
 
 pub sum-spec : {M : Type 1} → statement M
-sum-spec =
-    tie.close
-    (tie.spec
-    rank-requires
-    rank-requires-2
-    choose-requires
-    choose-requires-2
-    aligned-requires
-    returns)
+sum-spec = tie.close (tie.spec returns rank-requires rank-requires-2 choose-requires choose-requires-2 aligned-requires returns-2)
