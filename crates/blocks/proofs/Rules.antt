@@ -18,5 +18,5 @@ or-cases : (x y : Bool) → (x || y) ≡ true → (x ≡ true) ⊎ (y ≡ true)
 or-cases true y h = inl refl
 or-cases false y h = inr h
 
-pub one-or-two : (n : ℕ) → oneOrTwo n ≡ true → n ≤ 2
-one-or-two n h = ⊎-elim (λ p. omega (arith, eqb-true n 1 p)) (λ p. omega (arith, eqb-true n 2 p)) (or-cases (eqb n 1) (eqb n 2) h)
+pub at-most-two : (n : ℕ) → oneOrTwo n ≡ true → n ≤ 2
+at-most-two n h = ⊎-elim (λ p. omega (arith, eqb-true n 1 p)) (λ p. omega (arith, eqb-true n 2 p)) (or-cases (eqb n 1) (eqb n 2) h)

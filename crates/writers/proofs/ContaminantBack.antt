@@ -26,7 +26,7 @@ use Rattle.blocks.specs.declared.ContaminantRead.the-variants as C
 use Rattle.blocks.specs.Rules.{inFile}
 use Rattle.blocks.specs.Blocks.{contaminantAt, contaminantUnused, soundAt, contaminantRead}
 use Rattle.blocks.proofs.Found.{passed}
-use Rattle.blocks.proofs.Rules.{in-file, one-or-two}
+use Rattle.blocks.proofs.Rules.{in-file, at-most-two}
 use Rattle.writers.specs.Blocks.{contaminantBlock}
 use Rattle.writers.specs.Answers.{contaminantFit, contaminantAnswer, leftBy, contaminantLeft}
 use Rattle.writers.proofs.Answers.{refused}
@@ -64,7 +64,7 @@ module _ (place previous : ℕ) (r : Contaminant) (fit : contaminantFit place r 
   read-record : contaminantAt cb 8 ≡ r
   unfolding contaminantAt contaminantBlock decimalsAt
   read-record = λ i. record {
-    class = first-back 2 place (r .class) (r .id) (contaminantDecimals r) (replicate 428 0) (omega (arith, one-or-two (r .class) class-good)) i;
+    class = first-back 2 place (r .class) (r .id) (contaminantDecimals r) (replicate 428 0) (omega (arith, at-most-two (r .class) class-good)) i;
     id = second-back 2 place (r .class) (r .id) (contaminantDecimals r) (replicate 428 0) small i;
     sfo = nth 0 i;
     sfi = nth 1 i;

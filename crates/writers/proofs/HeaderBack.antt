@@ -27,7 +27,7 @@ use Rattle.blocks.specs.declared.HeaderRead.the-variants as H
 use Rattle.blocks.specs.Rules.{inFile, countOk}
 use Rattle.blocks.specs.Blocks.{scenarioAt, headerAt, headerUnused, soundAt, headerRead}
 use Rattle.blocks.proofs.Found.{passed}
-use Rattle.blocks.proofs.Rules.{in-file, one-or-two}
+use Rattle.blocks.proofs.Rules.{in-file, at-most-two}
 use Rattle.writers.specs.Blocks.{headerBlock}
 use Rattle.writers.specs.Answers.{headerFit, headerAnswer, leftBy, headerLeft}
 use Rattle.writers.proofs.Answers.{refused}
@@ -92,7 +92,7 @@ module _ (h : Header) (fit : headerFit h ≡ true) (known : lacksFactor (h .scen
   read-header : headerAt hb 8 ≡ h
   unfolding headerAt headerBlock
   read-header = λ i. record {
-    medium = first-back 1 0 (h .medium) (h .count) ds (replicate 396 0) (omega (arith, one-or-two (h .medium) medium-good)) i;
+    medium = first-back 1 0 (h .medium) (h .count) ds (replicate 396 0) (omega (arith, at-most-two (h .medium) medium-good)) i;
     count = read-count i;
     scenario = read-scenario i;
   }
