@@ -202,7 +202,7 @@ sized-back {w} {d} s = decimal-nine (biasedOf d) (s .nine) ∙ ap (λ (e : ℤ).
 module _ (dir : Direction) {w : ℕ} {d : Decimal} (s : Sized w d) where
   pub add-zero-right : addOf d zeroOf dir ≡ d
   unfolding addOf
-  add-zero-right = rw (sized-operable s .tested, operable-zero .tested, sum-zero-right dir (biasedOf d) (biasedOf zeroOf) (s .nine) refl) (sized-back s)
+  add-zero-right = rw (sized-operable s .tested, operable-zero .tested, sum-zero-right dir (biasedOf d) (biasedOf zeroOf) (s .nine .most) refl) (sized-back s)
 
   pub add-zero-left : addOf zeroOf d dir ≡ d
   unfolding addOf

@@ -6,14 +6,14 @@ use Prim.Native.Nat.{ℕ, zero, suc, _+_, _-_, _*_, _/_, _%_, _^_, _≤_, _<_}
 use native.Mathlib.Nat.{mul-le-mul, pow-le-pow-right, lt-of-lt-of-le, le-of-suc-le-suc, not-suc-le-zero, eq-or-lt-of-le}
 use native.Mathlib.Omega.{arith}
 use lib.Dec.{eqb, ltb, leb, lit<, lit≤}
-use borrow.Author.Tests.{eqb-true, ltb-true, ltb-false, leb-true, leb-false, le-leb, lt-ltb}
+use borrow.Author.Tests.{eqb-true, ltb-true, ltb-false, leb-true, leb-false}
 use Rattle.rounding.specs.declared.Direction.{Direction}
 use Rattle.rounding.specs.declared.Direction.the-variants.{Down, Up}
 use Rattle.rounding.specs.declared.Biased.{Biased}
 use Rattle.rounding.specs.Biased.{InRange, rankOf, Result, SumResult}
 use Rattle.rounding.specs.Round.{extraOf, divideOf, cutOf, roundOf}
 use Rattle.rounding.specs.Operations.{dividendOf, divisorOf, gapOf, alignedOf, sumOf}
-use Rattle.rounding.proofs.WholeQuotients.{divide-most, divide-beside, divide-small, divide-zero}
+use Rattle.rounding.proofs.WholeQuotients.{divide-most, divide-beside, divide-small}
 use Rattle.rounding.proofs.Greatest.{pow-ten-pos}
 
 pub extra-most : (dir : Direction) (d : ℕ) → extraOf dir d ≤ d
@@ -134,14 +134,3 @@ module _ (p q : Biased) (a : InRange p) (b : InRange q) where
       cases : (t : Bool) → g ≡ cond t p q → s ≡ cond t q p → (r ≡ alignedOf dir g s) × Result (g .x) r → (r ≡ cond t (alignedOf dir p q) (alignedOf dir q p)) × SumResult p q r
       cases true e f h = let k : g .x ≡ p .x = ap (λ (v : Biased). v .x) e in (cc, record { most = h .1 .most; low = omega (arith, h .1 .low); high = omega (arith, h .1 .high) })
       cases false e f h = let k : g .x ≡ q .x = ap (λ (v : Biased). v .x) e in (cc, record { most = h .1 .most; low = omega (arith, h .1 .low); high = omega (arith, h .1 .high) })
-
-  -- a zero adds nothing
-  pub sum-nothing : (dir : Direction) → q .m ≡ 0 → (p ≡ sumOf dir p q) × SumResult p q p
-  unfolding sumOf cutOf
-  sum-nothing dir e =
-      let r : rankOf q ≡ 0 = rw e in
-      let d : divideOf dir (q .m) (10 ^ placesOf (gapOf p q)) ≡ 0 = ap (λ (n : ℕ). divideOf dir n (10 ^ placesOf (gapOf p q))) e ∙ divide-zero dir (10 ^ placesOf (gapOf p q)) (pow-ten-pos (placesOf (gapOf p q))) in
-      let m : p .m + divideOf dir (q .m) (10 ^ placesOf (gapOf p q)) ≡ p .m = omega (arith, d) in (
-        sym (ap (λ (b : Bool). cond b (alignedOf dir p q) (alignedOf dir q p)) (le-leb (rankOf q) (rankOf p) (omega (arith, r))) ∙ sym (aligned-is dir p q (omega (arith, e))) ∙ rw (m, lt-ltb (p .m) 1000000000 (a .most))),
-        record { most = a .most; low = omega arith; high = omega arith },
-      )

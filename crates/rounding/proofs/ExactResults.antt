@@ -157,20 +157,20 @@ sum-rounds dir p q a b f g = cases (leb (rankOf q) (rankOf p)) refl
     cases false e = rw (add-comm (worth p) (worth q)) (aligned-rounds dir q p g f (omega (arith, a .low)) (omega (arith, leb-false (rankOf q) (rankOf p) e)))
 
 -- ---- zero and another number: the other number
-aligned-alone : (dir : Direction) (p q : Biased) → Nine p → q .m ≡ 0 → alignedOf dir p q ≡ p
+aligned-alone : (dir : Direction) (p q : Biased) → p .m < 1000000000 → q .m ≡ 0 → alignedOf dir p q ≡ p
 unfolding alignedOf roundOf cutOf
-aligned-alone dir p q f z = rw (quotient, lt-ltb (p .m) 1000000000 (f .most))
+aligned-alone dir p q f z = rw (quotient, lt-ltb (p .m) 1000000000 f)
   where
     quotient : divideOf dir (p .m * 10 ^ gapOf p q + q .m) (10 ^ gapOf p q) ≡ p .m
     quotient = divide-beside (q .m) (10 ^ gapOf p q) (pow-ten-pos (gapOf p q)) dir (p .m) ∙ ap (λ (v : ℕ). p .m + divideOf dir v (10 ^ gapOf p q)) z ∙ ap (λ (v : ℕ). p .m + v) (divide-zero dir (10 ^ gapOf p q) (pow-ten-pos (gapOf p q))) ∙ add-zero (p .m)
 
-pub sum-zero-right : (dir : Direction) (p q : Biased) → Nine p → q .m ≡ 0 → sumOf dir p q ≡ p
+pub sum-zero-right : (dir : Direction) (p q : Biased) → p .m < 1000000000 → q .m ≡ 0 → sumOf dir p q ≡ p
 unfolding sumOf
 sum-zero-right dir p q f z = ap (λ (t : Bool). cond t (alignedOf dir p q) (alignedOf dir q p)) (le-leb (rankOf q) (rankOf p) (let e = rank-zero q z in omega (arith, e))) ∙ aligned-alone dir p q f z
 
 pub sum-zero-left : (dir : Direction) (p q : Biased) → p .m ≡ 0 → Nine q → 0 < q .x → sumOf dir p q ≡ q
 unfolding sumOf
-sum-zero-left dir p q z g h = ap (λ (t : Bool). cond t (alignedOf dir p q) (alignedOf dir q p)) (lt-leb (rankOf q) (rankOf p) (let e = rank-zero p z in let f = rank-nine q g in omega (arith, e, f))) ∙ aligned-alone dir q p g z
+sum-zero-left dir p q z g h = ap (λ (t : Bool). cond t (alignedOf dir p q) (alignedOf dir q p)) (lt-leb (rankOf q) (rankOf p) (let e = rank-zero p z in let f = rank-nine q g in omega (arith, e, f))) ∙ aligned-alone dir q p (g .most) z
 
 pub sum-zero-both : (dir : Direction) (p q : Biased) → p .m ≡ 0 → q .m ≡ 0 → sumOf dir p q .m ≡ 0
 unfolding sumOf alignedOf

@@ -1,12 +1,14 @@
 -- `rounding::sum` meets its contract. Assumes nothing.
-use mathlib.Core.Path.{_∙_}
-use Rattle.rounding.proofs.CodeFacts.{ordered, ordered-sum, sum-nothing}
+use mathlib.Core.Path.{sym, _∙_}
+use native.Mathlib.Omega.{arith}
+use Rattle.rounding.proofs.CodeFacts.{ordered, ordered-sum}
+use Rattle.rounding.proofs.ExactResults.{sum-zero-right}
 use borrow.Author.Needs.{needs}
 use Rattle.rounding.proofs.sum.Statement.{statement}
 use Rattle.rounding.proofs.sum.Tie as tie
 
 returns : tie.Need-returns
-returns c = sum-nothing (c .before .before .args .p) (c .before .before .args .q) (c .before .before .pre .0) (c .before .before .pre .1) (c .before .before .args .dir) (c .if1 .taken)
+returns c = (sym (sum-zero-right (c .before .before .args .dir) (c .before .before .args .p) (c .before .before .args .q) (c .before .before .pre .0 .most) (c .if1 .taken)), record { most = c .before .before .pre .0 .most; low = omega arith; high = omega arith })
 
 rank-requires : tie.Need-rank-requires
 rank-requires c κs = search needs
