@@ -1,6 +1,6 @@
-"""Writes the example of paper 01 as a site, the stored cases of whole sites, and what a program must print for them.
+"""Writes what the programs gvlist and site_cases read and must print: the example of paper 01, and stored cases of sites.
 
-    python3 tests/make_site_cases.py            writes the three files
+    python3 tests/make_site_cases.py            writes stdin and stdout of crates/gvlist and of crates/site_cases
     python3 tests/make_site_cases.py --check    status 1 when the stored files are not what it would write
 
 The cases are in the frames of site_frames.py. For each case the expected text holds the listing's text; a line "answer"
@@ -15,15 +15,14 @@ import sys
 from check_sites import site_wrong
 from second.listing import text_of
 from second.sites import site
-from site_example import example_site
+from site_example import EXAMPLE_TEXT, example_site
 from site_faults import BROKEN_FIELDS
 from site_frames import case_frame, filled, number_of
 from site_maker import FAMILIES, family_of, family_sites, one_fault, planned
 
-FOLDER = pathlib.Path(__file__).parent
-EXAMPLE = FOLDER / "example.site"
-CASES = FOLDER / "cases" / "site_cases.bin"
-EXPECTED = FOLDER / "cases" / "site_cases.txt"
+FOLDER = pathlib.Path(__file__).parent.parent / "crates"
+EXAMPLE, EXAMPLE_PRINTED = FOLDER / "gvlist" / "stdin", FOLDER / "gvlist" / "stdout"
+CASES, CASES_PRINTED = FOLDER / "site_cases" / "stdin", FOLDER / "site_cases" / "stdout"
 SEED = 20261116
 
 # How many sites of a family are stored, and how long they may be, where it is not as for the others.
@@ -94,7 +93,8 @@ def files(cases, answers):
     """The bytes of each file."""
     frames = [case_frame(given, room) for _, given, room in cases]
     texts = [expected_text(answer, len(given)) for answer, (_, given, _) in zip(answers, cases)]
-    return {EXAMPLE: example_site(), CASES: b"".join(frames), EXPECTED: "".join(texts).encode()}
+    return {EXAMPLE: example_site(), EXAMPLE_PRINTED: EXAMPLE_TEXT.encode(),
+            CASES: b"".join(frames), CASES_PRINTED: "".join(texts).encode()}
 
 
 def print_counts(cases, answers):
@@ -113,10 +113,9 @@ def main():
     answers = list(worked(cases))
     for path, content in files(cases, answers).items():
         if "--check" not in sys.argv[1:]:
-            path.parent.mkdir(exist_ok=True)
             path.write_bytes(content)
         elif not path.is_file() or path.read_bytes() != content:
-            print(f"{path.name} is not what make_site_cases.py writes")
+            print(f"{path.relative_to(FOLDER)} is not what make_site_cases.py writes")
             status = 1
     print_counts(cases, answers)
     return status

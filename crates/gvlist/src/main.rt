@@ -2,8 +2,11 @@
 use libc::STDERR_FILENO;
 use libc::STDIN_FILENO;
 use libc::STDOUT_FILENO;
+ghost use mathlib.Core.Path.{_≡_};
 ghost use Prim.Native.Nat.{_≤_};
-ghost use lib.ListN.{length};
+ghost use lib.ListN.{length, take};
+ghost use Rattle.io.specs.Counts.{Counts};
+ghost use Rattle.listing.specs.Listing.{listingOf};
 
 // What was read: how many bytes stand at the start of the buffer, and whether every read went well.
 struct Input {
@@ -25,10 +28,11 @@ fn read_all(buf: &mut [u8]) -> Input
                 good: false,
             };
         }
-        if got == 0 {
+        let n = io::count(got, &buf[done..]);
+        if n == 0 {
             break;
         }
-        done += io::count(got, &buf[done..]);
+        done += n;
     }
     Input {
         length: done,
@@ -36,15 +40,21 @@ fn read_all(buf: &mut [u8]) -> Input
     }
 }
 
+// Puts the listing of a site, all of it, at the start of a text that has room for every listing.
+fn list_text(site: &[u8], text: &mut [u8]) -> usize
+    requires { ⌜ 24576 ≤ length (now text) ⌝ }
+    ensures { λ n. ⌜ Counts n (now (text .exit)) ⌝ }
+    ensures { λ n. ⌜ take n (now (text .exit)) ≡ listingOf (now (site .entry)) 65536 ⌝ }
+{
+    let mut results = io::large_buffer();
+    let listed = listing::list_site(site, &mut results, text);
+    listed.length
+}
+
 // Lists the site and writes the text.
 fn write_listing(site: &[u8]) {
-    let mut results = io::large_buffer();
     let mut text = [0u8; 24576];
-    let listed = listing::list_site(site, &mut results, &mut text);
-    let n = listed.length;
-    if 24576 < n {
-        return;
-    }
+    let n = list_text(site, &mut text);
     if !io::write_all(STDOUT_FILENO, &text[..n]) {
         io::write_all(
             STDERR_FILENO,

@@ -5,7 +5,8 @@ use mathlib.Core.List.{List, _++_}
 use Prim.Native.Nat.{ℕ, _/_, _≤_, _<_}
 use native.Mathlib.Omega.{arith}
 use lib.Dec.{eqb, leb}
-use lib.ListN.{length, length-append}
+use lib.ListN.{length, take, drop, length-append}
+use lib.Seq.{take-append-seam}
 use borrow.Author.Tests.{eqb-true, eq-eqb, ne-eqb, le-leb, lt-leb}
 use Rattle.outcome.specs.declared.Refusal.{Refusal}
 use Rattle.outcome.specs.Outcome.{numberOf}
@@ -80,6 +81,18 @@ module _ (site : List ℕ) (out : ℕ) (text : List ℕ) where
   enough {a} h q p =
       let e : leb 24576 (length text) ≡ true = le-leb 24576 (length text) h in
       (p .0 ∙ ap (λ (x : SumsAnswer). length (textOf site x)) q ∙ rw e, p .1 ∙ ap (λ (x : SumsAnswer). over (textOf site x) text) q ∙ rw e)
+
+  -- a text with room holds the listing, all of it, as far as the length says
+  pub whole : {n : ℕ} {left : List ℕ} → n ≡ textLength site out text → left ≡ textLeft site out text → 24576 ≤ length text →
+      (n ≤ length left) × (take n left ≡ listingOf site out)
+  unfolding textLength textLeft textRoom over
+  whole {n} {left} p q h =
+      let e : leb 24576 (length text) ≡ true = le-leb 24576 (length text) h in
+      let l = listingOf site out in
+      let rest = drop (length l) text in
+      let long : n ≡ length l = rw e at p in
+      let is : left ≡ l ++ rest = rw e at q in
+      (omega (arith, long, ap length is, length-append l rest), rw (long, is) (take-append-seam l rest))
 
 -- ---- no listing is longer than the text that `list_site` asks for
 module _ (site : List ℕ) (a : SumsAnswer) where

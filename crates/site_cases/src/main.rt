@@ -51,9 +51,6 @@ fn run_case(site: &[u8], out: &mut [u8])
     let mut text = [0u8; 24576];
     let listed = listing::list_site(site, out, &mut text);
     let n = listed.length;
-    if 24576 < n {
-        return;
-    }
     io::write_all(STDOUT_FILENO, &text[..n]);
     print_answer(listed.answer);
     print_output(out);
