@@ -5,46 +5,35 @@ use mathlib.Core.List.{List, _++_}
 use Prim.Native.Nat.{ℕ, _/_, _≤_, _<_}
 use native.Mathlib.Omega.{arith}
 use lib.Dec.{eqb, leb}
-use lib.ListN.{length, take, drop, length-append}
+use lib.ListN.{length, getD, take, drop, length-append}
 use lib.Seq.{take-append-seam}
 use borrow.Author.Tests.{eqb-true, eq-eqb, ne-eqb, le-leb, lt-leb}
 use Rattle.outcome.specs.declared.Refusal.{Refusal}
 use Rattle.outcome.specs.Outcome.{numberOf}
 use Rattle.words.specs.Bytes.{over}
 use Rattle.blocks.specs.declared.Header.{Header}
-use Rattle.blocks.specs.declared.HeaderRead.{HeaderRead}
 use Rattle.blocks.specs.declared.HeaderRead.the-variants as H
 use Rattle.blocks.specs.Blocks.{headerRead}
-use Rattle.blocks.proofs.Found.{header-refused}
 use Rattle.sums.specs.declared.SumsAnswer.{SumsAnswer}
-use Rattle.site.specs.Site.{lengthOk, blockAt, siteAnswer}
-use Rattle.site.specs.Results.{headerOf}
+use Rattle.site.specs.Site.{blockAt, siteAnswer}
+use Rattle.site.specs.Results.{headerOf, siteLeft}
 use Rattle.site.specs.Check.{Opened}
-use Rattle.site.proofs.Answers.{answer-length, answer-header, header-is, count-most}
+use Rattle.site.proofs.Answers.{count-most}
+use Rattle.site.proofs.Passed.{passed-site}
 use Rattle.listing.specs.Lines.{sumLine, refusalLine}
-use Rattle.listing.specs.Listing.{linesTo, acceptedText, textOf, listingOf, textRoom, textLength, textLeft}
-use Rattle.listing.specs.Asked.{Answered}
+use Rattle.listing.specs.Listing.{acceptedText, textOf, listingOf, textRoom, textLength, textLeft}
+use Rattle.listing.specs.Asked.{blockText, Written, Answered}
 use Rattle.listing.proofs.LineParts.{sum-most, refusal-most, lines-to-most}
+use Rattle.listing.proofs.ResultLines.{written}
 
--- ---- an accepted answer has found the header
-module _ (site : List ℕ) (out : ℕ) (z : numberOf (siteAnswer site out .refusal) ≡ 0) where
-  none : (a : SumsAnswer) → siteAnswer site out ≡ a → (numberOf (a .refusal) ≡ 0 → ⊥) → ⊥
-  none a e n = n (ap (λ (x : SumsAnswer). numberOf (x .refusal)) (sym e) ∙ z)
+-- ---- an accepted answer has written its result blocks
+accepted-by : (site : List ℕ) (out : ℕ) {a : SumsAnswer} → a ≡ siteAnswer site out → numberOf (a .refusal) ≡ 0 → numberOf (siteAnswer site out .refusal) ≡ 0
+accepted-by site out e z = ap (λ (x : SumsAnswer). numberOf (x .refusal)) (sym e) ∙ z
 
-  by-header : lengthOk (length site) ≡ true → (x : HeaderRead) → headerRead (blockAt site 0) (length site / 512) ≡ x → Opened site (headerOf site)
-  by-header r (H.Refused m) e = absurd (none _ (answer-header site out m r e) (header-refused (blockAt site 0) (length site / 512) m e))
-  by-header r (H.Found h) e =
-      let o : Opened site h = record { right = r; header = e } in
-      subst (Opened site) (sym (header-is o)) o
+pub answered : (site out : List ℕ) (a : SumsAnswer) (results : List ℕ) → ((i : ℕ) → getD site i 0 < 256) → a ≡ siteAnswer site (length out) → results ≡ siteLeft site out → Answered site results a
+answered site out a results byte e f = record { written = λ z. subst (Written site) (sym f) (written site out (accepted-by site (length out) e z) byte) }
 
-  by-length : (b : Bool) → lengthOk (length site) ≡ b → Opened site (headerOf site)
-  by-length true r = by-header r (headerRead (blockAt site 0) (length site / 512)) refl
-  by-length false r = absurd (none _ (answer-length site out r) (λ q. omega (arith, q)))
-
-pub answered : (site : List ℕ) (out : ℕ) (a : SumsAnswer) → a ≡ siteAnswer site out → Answered site a
-answered site out a e = record { opened = λ z. by-length site out (ap (λ (x : SumsAnswer). numberOf (x .refusal)) (sym e) ∙ z) (lengthOk (length site)) refl }
-
--- so it is not refused when it is read again
+-- the header was found, so it is not refused when it is read again
 pub not-refused : {site : List ℕ} {h : Header} {m : Refusal} → Opened site h → headerRead (blockAt site 0) (length site / 512) ≡ H.Refused m → ⊥
 not-refused {site} {h} {m} o e =
     let q : H.Refused m ≡ H.Found h = sym e ∙ o .header in
@@ -52,10 +41,10 @@ not-refused {site} {h} {m} o e =
     omega arith
 
 -- ---- the text of an answer
-pub accepted-parts : {site : List ℕ} {h : Header} (a : SumsAnswer) → Opened site h →
-    linesTo (h .scenario) (h .medium) site (h .count) ++ sumLine 0 (a .risk) ++ sumLine 1 (a .hazard) ≡ acceptedText site a
+pub accepted-parts : {site results : List ℕ} {h : Header} (a : SumsAnswer) → Written site results → headerOf site ≡ h → blockText results (h .count) a ≡ acceptedText site a
 unfolding acceptedText
-accepted-parts {site} a o = ap (λ (k : Header). linesTo (k .scenario) (k .medium) site (k .count) ++ sumLine 0 (a .risk) ++ sumLine 1 (a .hazard)) (sym (header-is o))
+accepted-parts {site} {results} a w e =
+    ap (λ (k : Header). blockText results (k .count) a) (sym e) ∙ ap (λ (l : List ℕ). l ++ sumLine 0 (a .risk) ++ sumLine 1 (a .hazard)) (w .lines)
 
 pub text-refused : (site : List ℕ) (a : SumsAnswer) (n : ℕ) → n ≡ numberOf (a .refusal) → (n ≡ 0 → ⊥) → refusalLine n (a .block) ≡ textOf site a
 unfolding textOf
@@ -103,14 +92,14 @@ module _ (site : List ℕ) (a : SumsAnswer) where
       simp length-append
       (omega (arith, lines-to-most (h .scenario) (h .medium) site (h .count), count-most o, sum-most 0 (a .risk), sum-most 1 (a .hazard)))
 
-  text-most : Answered site a → length (textOf site a) ≤ 24576
+  text-most : (numberOf (a .refusal) ≡ 0 → Opened site (headerOf site)) → length (textOf site a) ≤ 24576
   unfolding textOf
   text-most w = cases (eqb (numberOf (a .refusal)) 0) refl
     where
       cases : (b : Bool) → eqb (numberOf (a .refusal)) 0 ≡ b → length (cond b (acceptedText site a) (refusalLine (numberOf (a .refusal)) (a .block))) ≤ 24576
-      cases true e = accepted-most (w .opened (eqb-true (numberOf (a .refusal)) 0 e))
+      cases true e = accepted-most (w (eqb-true (numberOf (a .refusal)) 0 e))
       cases false e = omega (arith, refusal-most (numberOf (a .refusal)) (a .block))
 
 pub listing-most : (site : List ℕ) (out : ℕ) → length (listingOf site out) ≤ 24576
 unfolding listingOf
-listing-most site out = text-most site (siteAnswer site out) (answered site out (siteAnswer site out) refl)
+listing-most site out = text-most site (siteAnswer site out) (λ z. passed-site site out z .opened)

@@ -4,12 +4,11 @@ use mathlib.Core.List.{List, _++_}
 use Prim.Native.Nat.{ℕ, _+_, _*_, _≤_}
 use native.Mathlib.Omega.{arith}
 use lib.ListN.{length}
-use Rattle.inputs.specs.declared.Scenario.{Scenario}
+use Rattle.site.specs.Site.{blockAt}
 use Rattle.words.specs.Bytes.{placed, over}
 use Rattle.words.proofs.Written.{Wrote, wrote-none, wrote-next, over-length}
-use Rattle.listing.specs.Listing.{linesTo}
-use Rattle.listing.specs.Asked.{placeLines}
-use Rattle.listing.proofs.LineParts.{lines-next, lines-to-most}
+use Rattle.listing.specs.Asked.{blockLines, blockLinesTo}
+use Rattle.listing.proofs.LineParts.{blocks-next, blocks-most}
 
 pub wrote-then : {l p d : List ℕ} {at : ℕ} → Wrote l p d at → (w : List ℕ) {l′ : List ℕ} {end : ℕ} → (end ≡ at + length w) × (l′ ≡ placed l at w) → Wrote l′ (p ++ w) d end
 wrote-then {l} {p} {d} {at} W w {l′} {end} q = subst (Wrote l′ (p ++ w) d) (sym (q .0)) (wrote-next l′ w (length w) W (q .1) refl)
@@ -28,15 +27,16 @@ wrote-all {l} {p} {q} {d} {at} e W = subst (λ (t : List ℕ). (at ≡ length t)
 pub wrote-of : (p : List ℕ) {l d : List ℕ} {at : ℕ} → (at ≡ length p) × (l ≡ over p d) → Wrote l p d at
 wrote-of p q = record { now = q .1; long = sym (q .0) }
 
--- ---- the contaminants, one place after another
-module _ (s : Scenario) (medium : ℕ) (site : List ℕ) where
-  pub none-yet : (d : List ℕ) → Wrote d (linesTo s medium site 0) d 0
-  unfolding linesTo
+-- ---- the result blocks, one place after another
+module _ (results : List ℕ) where
+  pub none-yet : (d : List ℕ) → Wrote d (blockLinesTo results 0) d 0
+  unfolding blockLinesTo
   none-yet d = wrote-none d
 
-  pub at-most : {l d : List ℕ} {at : ℕ} (k : ℕ) → Wrote l (linesTo s medium site k) d at → at ≤ 192 * k
-  at-most {l} {d} {at} k W = omega (arith, W .long, lines-to-most s medium site k)
+  pub at-most : {l d : List ℕ} {at : ℕ} (k : ℕ) → Wrote l (blockLinesTo results k) d at → at ≤ 192 * k
+  at-most {l} {d} {at} k W = omega (arith, W .long, blocks-most results k)
 
-  pub one-place : {l d : List ℕ} {at : ℕ} (k : ℕ) → Wrote l (linesTo s medium site k) d at → {l′ : List ℕ} {end : ℕ} →
-      (end ≡ at + length (placeLines s medium site (k + 1))) × (l′ ≡ placed l at (placeLines s medium site (k + 1))) → Wrote l′ (linesTo s medium site (k + 1)) d end
-  one-place {l} {d} {at} k W {l′} {end} q = subst (λ (t : List ℕ). Wrote l′ t d end) (lines-next s medium site k) (wrote-then W (placeLines s medium site (k + 1)) q)
+  pub one-place : {l d : List ℕ} {at : ℕ} (k : ℕ) → Wrote l (blockLinesTo results k) d at → {b l′ : List ℕ} {end : ℕ} → b ≡ blockAt results (k + 1) →
+      (end ≡ at + length (blockLines b)) × (l′ ≡ placed l at (blockLines b)) → Wrote l′ (blockLinesTo results (k + 1)) d end
+  one-place {l} {d} {at} k W {b} {l′} {end} e q =
+      subst (λ (t : List ℕ). Wrote l′ t d end) (ap (λ (c : List ℕ). blockLinesTo results k ++ blockLines c) e ∙ blocks-next results k) (wrote-then W (blockLines b) q)

@@ -2,19 +2,17 @@
 mod lines;
 mod spelt;
 
-use blocks::Header;
 use blocks::HeaderRead;
-use inputs::Scenario;
+use guideline::SideGuidelines;
 use sums::SumsAnswer;
 ghost use mathlib.Core.Path.{_≡_};
-ghost use Prim.Native.Nat.{_+_, _*_, _≤_};
+ghost use Prim.Native.Nat.{_+_, _≤_};
 ghost use lib.ListN.{length};
 ghost use Rattle.words.specs.Bytes.{placed, over};
-ghost use Rattle.site.specs.Check.{Opened};
 ghost use Rattle.site.specs.Site.{siteAnswer};
 ghost use Rattle.site.specs.Results.{siteLeft};
-ghost use Rattle.listing.specs.Listing.{linesTo, acceptedText, textOf, textLength, textLeft};
-ghost use Rattle.listing.specs.Asked.{placeLines, Listing, Answered};
+ghost use Rattle.listing.specs.Listing.{textOf, textLength, textLeft};
+ghost use Rattle.listing.specs.Asked.{sideRead, blockLines, blockLinesTo, blockText, Listing, Answered};
 
 // The answer of the site call, and the listing's length.
 pub struct Listed {
@@ -22,52 +20,63 @@ pub struct Listed {
     pub length: usize,
 }
 
-// The lines of the contaminant at a place, from `at` on.
-fn put_place(site: &[u8], s: Scenario, medium: u32, place: u32, out: &mut [u8], at: usize) -> usize
-    requires { ⌜ (512 * place + 512 ≤ length (now site)) × ((place ≤ 120) × (at + 192 ≤ length (now out))) ⌝ }
-    ensures { λ end. ⌜ (end ≡ at + length (placeLines s medium (now (site .entry)) place)) × (now (out .exit) ≡ placed (now (out .entry)) at (placeLines s medium (now (site .entry)) place)) ⌝ }
+// The guidelines of a side, in the four fields from `at` on.
+fn get_side(block: &[u8], at: usize) -> SideGuidelines
+    requires { ⌜ (at ≤ 100) × (at + 32 ≤ length (now block)) ⌝ }
+    ensures { λ g. ⌜ g ≡ sideRead (now (block .entry)) at ⌝ }
 {
-    let block = 512 * (place as usize);
-    let from = block + 4;
-    let to = block + 508;
-    let r = blocks::get_contaminant(&site[from..to], 4);
-    let g = guideline::guideline(s, medium, r);
-    let risk = g.risk;
-    let hazard = g.hazard;
-    lines::put_lines(out, at, r.class, r.id, risk, hazard)
+    SideGuidelines {
+        first: fields::read(block, at),
+        second: fields::read(block, at + 8),
+        third: fields::read(block, at + 16),
+        total: fields::read(block, at + 24),
+    }
 }
 
-// The lines of all contaminants.
-fn put_places(site: &[u8], s: Scenario, medium: u32, count: u32, out: &mut [u8]) -> usize
-    requires { ⌜ Listing (now site) (now out) count ⌝ }
-    ensures { λ end. ⌜ (end ≡ length (linesTo s medium (now (site .entry)) count)) × (now (out .exit) ≡ over (linesTo s medium (now (site .entry)) count) (now (out .entry))) ⌝ }
+// The lines that a result block spells, from `at` on.
+fn put_place(block: &[u8], out: &mut [u8], at: usize) -> usize
+    requires { ⌜ (512 ≤ length (now block)) × (at + 192 ≤ length (now out)) ⌝ }
+    ensures { λ end. ⌜ (end ≡ at + length (blockLines (now (block .entry)))) × (now (out .exit) ≡ placed (now (out .entry)) at (blockLines (now (block .entry)))) ⌝ }
+{
+    let class = words::word(block, 8);
+    let id = words::word(block, 12);
+    let risk = get_side(block, 16);
+    let hazard = get_side(block, 48);
+    lines::put_lines(out, at, class, id, risk, hazard)
+}
+
+// The lines of all result blocks.
+fn put_places(results: &[u8], count: u32, out: &mut [u8]) -> usize
+    requires { ⌜ Listing (now results) (now out) count ⌝ }
+    ensures { λ end. ⌜ (end ≡ length (blockLinesTo (now (results .entry)) count)) × (now (out .exit) ≡ over (blockLinesTo (now (results .entry)) count) (now (out .entry))) ⌝ }
 {
     let mut at: usize = 0;
     let mut k: u32 = 0;
     while k < count {
         let place = k + 1;
-        at = put_place(site, s, medium, place, out, at);
+        let from = 512 * (place as usize);
+        let to = from + 512;
+        at = put_place(&results[from..to], out, at);
         k += 1;
     }
     at
 }
 
-// The listing of an accepted site: its contaminants, then the sums.
-fn put_accepted(site: &[u8], h: Header, a: SumsAnswer, out: &mut [u8]) -> usize
-    requires { ⌜ Opened (now site) h × (24576 ≤ length (now out)) ⌝ }
-    ensures { λ end. ⌜ (end ≡ length (acceptedText (now (site .entry)) a)) × (now (out .exit) ≡ over (acceptedText (now (site .entry)) a) (now (out .entry))) ⌝ }
+// The listing of an accepted site: its result blocks, then the sums.
+fn put_accepted(results: &[u8], count: u32, a: SumsAnswer, out: &mut [u8]) -> usize
+    requires { ⌜ Listing (now results) (now out) count ⌝ }
+    ensures { λ end. ⌜ (end ≡ length (blockText (now (results .entry)) count a)) × (now (out .exit) ≡ over (blockText (now (results .entry)) count a) (now (out .entry))) ⌝ }
 {
-    let s = h.scenario;
     let risk = a.risk;
     let hazard = a.hazard;
-    let first = put_places(site, s, h.medium, h.count, out);
+    let first = put_places(results, count, out);
     let second = lines::put_sums(out, first, 0, risk);
     lines::put_sums(out, second, 1, hazard)
 }
 
-// The listing of an answer: a refusal alone, or an accepted site, whose header is read again.
-fn put_listing(site: &[u8], a: SumsAnswer, out: &mut [u8]) -> usize
-    requires { ⌜ Answered (now site) a × (24576 ≤ length (now out)) ⌝ }
+// The listing of an answer: a refusal alone, or an accepted site, whose header is read again for its count.
+fn put_listing(site: &[u8], results: &[u8], a: SumsAnswer, out: &mut [u8]) -> usize
+    requires { ⌜ Answered (now site) (now results) a × (24576 ≤ length (now out)) ⌝ }
     ensures { λ end. ⌜ (end ≡ length (textOf (now (site .entry)) a)) × (now (out .exit) ≡ over (textOf (now (site .entry)) a) (now (out .entry))) ⌝ }
 {
     let refusal = a.refusal;
@@ -79,11 +88,11 @@ fn put_listing(site: &[u8], a: SumsAnswer, out: &mut [u8]) -> usize
     match blocks::read_header(site, blocks) {
         // It was found before, so it is found again.
         HeaderRead::Refused(_) => 0,
-        HeaderRead::Found(h) => put_accepted(site, h, a, out),
+        HeaderRead::Found(h) => put_accepted(results, h.count, a, out),
     }
 }
 
-// Evaluates the site into `results` as the site call does, and puts its listing at the start of `text`.
+// Evaluates the site into `results` as the site call does, and puts its listing, read from there, at the start of `text`.
 // A text of fewer than 24,576 bytes is left as it was.
 pub fn list_site(site: &[u8], results: &mut [u8], text: &mut [u8]) -> Listed
     ensures { λ r. ⌜ (r .answer ≡ siteAnswer (now (site .entry)) (length (now (results .entry)))) × ((r .length ≡ textLength (now (site .entry)) (length (now (results .entry))) (now (text .entry))) × ((now (results .exit) ≡ siteLeft (now (site .entry)) (now (results .entry))) × (now (text .exit) ≡ textLeft (now (site .entry)) (length (now (results .entry))) (now (text .entry))))) ⌝ }
@@ -92,6 +101,6 @@ pub fn list_site(site: &[u8], results: &mut [u8], text: &mut [u8]) -> Listed
     if text.len() < 24576 {
         return Listed { answer, length: 0 };
     }
-    let length = put_listing(site, answer, text);
+    let length = put_listing(site, results, answer, text);
     Listed { answer, length }
 }
