@@ -11,11 +11,11 @@ use Rattle.words.specs.Words.{wordAt, partOf}
 use Rattle.words.proofs.Parts.{word-first}
 use Rattle.inputs.specs.declared.Contaminant.{Contaminant}
 use Rattle.inputs.specs.Rules.{scenarioFits, contaminantFits, lacksFactor}
-use Rattle.blocks.specs.declared.Header.{Header}
-use Rattle.blocks.specs.declared.HeaderRead.the-variants as H
-use Rattle.blocks.specs.declared.ContaminantRead.the-variants as C
-use Rattle.blocks.specs.Rules.{countOk}
-use Rattle.blocks.specs.Blocks.{scenarioAt, headerAt, headerUnused, contaminantAt, contaminantUnused, soundAt, headerRead, contaminantRead}
+use Rattle.block_rules.specs.declared.Header.{Header}
+use Rattle.block_rules.specs.declared.HeaderRead.the-variants as H
+use Rattle.block_rules.specs.declared.ContaminantRead.the-variants as C
+use Rattle.block_rules.specs.Rules.{countOk}
+use Rattle.block_rules.specs.Reading.{scenarioAt, headerAt, headerUnused, contaminantAt, contaminantUnused, soundAt, headerRead, contaminantRead}
 use Rattle.blocks.proofs.Parts.{inner, inner-first, whole, contaminant-part, contaminant-unused-part, header-part, header-unused-part}
 
 -- the first three tests are passed

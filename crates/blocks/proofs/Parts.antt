@@ -6,11 +6,12 @@ use Prim.Native.Nat.{ℕ, _+_, _-_, _≤_, _<_}
 use native.Mathlib.Omega.{arith}
 use lib.ListN.{length, take, drop, length-take, length-drop}
 use lib.Dec.{eqb, leb}
-use borrow.Author.Tests.{eq-eqb, ne-eqb, eqb-true, leb-true, leb-false}
+use borrow.Author.Tests.{ne-eqb, eqb-true, leb-true, leb-false}
 use Rattle.words.specs.Words.{partOf}
-use Rattle.words.proofs.Parts.{word-part, zeros-part, part-part, part-length}
+use Rattle.words.proofs.Parts.{word-part, zeros-part, part-part}
 use Rattle.fields.proofs.Fields.{decimal-part, unused-part}
-use Rattle.blocks.specs.Blocks.{scenarioAt, headerAt, headerUnused, contaminantAt, contaminantUnused}
+use Rattle.block_rules.specs.Reading.{scenarioAt, headerAt, headerUnused, contaminantAt, contaminantUnused}
+use Rattle.block_rules.proofs.Rules.{is-block}
 
 module _ (b : List ℕ) where
   scenario-part : scenarioAt (partOf b 4 504) 12 ≡ scenarioAt b 16
@@ -81,9 +82,6 @@ whole s at =
 pub block-fits : (s : List ℕ) (at : ℕ) → eqb (length (partOf s at 512)) 512 ≡ true → at + 512 ≤ length s
 unfolding partOf
 block-fits s at e = omega (arith, simp (length-take, length-drop) at (eqb-true (length (take 512 (drop at s))) 512 e))
-
-pub is-block : (s : List ℕ) (at : ℕ) → at + 512 ≤ length s → eqb (length (partOf s at 512)) 512 ≡ true
-is-block s at h = eq-eqb (length (partOf s at 512)) 512 (part-length s at 512 h)
 
 pub no-block : (s : List ℕ) (at : ℕ) → length s < at + 512 → eqb (length (partOf s at 512)) 512 ≡ false
 unfolding partOf

@@ -1,34 +1,17 @@
 // Reading the blocks of a site: the header and the contaminants.
+use block_rules::ContaminantRead;
+use block_rules::Header;
+use block_rules::HeaderRead;
 use inputs::Contaminant;
 use inputs::Scenario;
 use outcome::Refusal;
-ghost use mathlib.Core.Bool.{_&&_};
 ghost use mathlib.Core.Path.{_≡_};
 ghost use Prim.Native.Nat.{_+_, _≤_};
 ghost use lib.Dec.{eqb};
 ghost use lib.ListN.{length};
 ghost use Rattle.words.specs.Words.{partOf};
-ghost use Rattle.blocks.specs.Rules.{inFile, countOk};
-ghost use Rattle.blocks.specs.Blocks.{scenarioAt, headerAt, contaminantAt, headerUnused, contaminantUnused, soundAt, headerRead, contaminantRead};
-
-// What a header block holds: the medium (1 soil, 2 water), how many contaminants follow, the scenario.
-pub struct Header {
-    pub medium: u32,
-    pub count: u32,
-    pub scenario: Scenario,
-}
-
-// A header, or why its block is refused.
-pub enum HeaderRead {
-    Found(Header),
-    Refused(Refusal),
-}
-
-// A contaminant, or why its block is refused.
-pub enum ContaminantRead {
-    Found(Contaminant),
-    Refused(Refusal),
-}
+ghost use Rattle.block_rules.specs.Rules.{inFile, countOk};
+ghost use Rattle.block_rules.specs.Reading.{scenarioAt, headerAt, contaminantAt, headerUnused, contaminantUnused, soundAt, headerRead, contaminantRead};
 
 // Whether a count or a place is from 1 to 120.
 pub fn in_file(n: u32) -> bool

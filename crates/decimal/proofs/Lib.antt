@@ -1,5 +1,6 @@
 pub mod Bias
 pub mod OperandFacts
 pub mod Laws
-pub mod Approximation
 pub mod CoreOperations
+pub mod Approximation
+pub mod Value

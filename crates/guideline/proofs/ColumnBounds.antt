@@ -1,36 +1,33 @@
 -- The code's column of a side stands for the guidelines of the definitions, and is in range. Assumes nothing.
 use mathlib.Core.Path.{_≡_, refl, sym, ap, subst, _∙_}
-use mathlib.Core.Bool.{Bool, true, false, cond, not, _&&_, _||_}
-use mathlib.Core.Logic.{_⊎_, inl, inr}
+use mathlib.Core.Bool.{true, not}
+use mathlib.Core.Logic.{inl, inr}
 use mathlib.Core.List.{List, [], _∷_, map}
-use Prim.Native.Nat.{ℕ, _+_, _≤_, _<_}
+use Prim.Native.Nat.{ℕ, _≤_}
 use native.Mathlib.Omega.{arith}
-use lib.Dec.{eqb, ltb, lit<, lit≤}
+use lib.Dec.{eqb, lit≤}
 use lib.ListN.{length, getD}
-use lib.IntN.{ℤ}
-use borrow.Author.Tests.{eq-eqb, ne-eqb, lt-ltb}
+use borrow.Author.Tests.{eq-eqb, lt-ltb}
 use Rattle.rounding.specs.declared.Direction.{Direction}
 use Rattle.rounding.specs.declared.Direction.the-variants.{Down, Up}
 use Rattle.rounding.specs.declared.Biased.{Biased}
-use Rattle.rounding.specs.Biased.{Nine, Working, InRange}
-use Rattle.rounding.specs.Operations.{quotientOf, sumOf}
+use Rattle.rounding.specs.Biased.{Working, InRange}
+use Rattle.rounding.specs.Operations.{sumOf}
 use Rattle.decimal.specs.declared.Decimal.{Decimal}
-use Rattle.decimal.specs.Exponent.{raise, inRange, raised}
-use Rattle.decimal.specs.Decimal.{zeroOf, decimalOf, addOf, divOf, Printable}
+use Rattle.decimal.specs.Decimal.{zeroOf, addOf, divOf, Printable}
 use Rattle.decimal.specs.Lists.{summed}
 use Rattle.decimal.proofs.Laws.{decimal-zero, decimal-nine}
 use Rattle.terms.specs.declared.pathways.Side.{Side}
-use Rattle.terms.specs.Formula.{Formula, none}
-use Rattle.terms.specs.Term.{termOf, totalOf}
+use Rattle.formulas.specs.Formula.{Formula, none}
+use Rattle.formulas.specs.Term.{termOf, totalOf}
 use Rattle.terms.specs.Stands.{Stands}
 use Rattle.terms.specs.Side.{Wide, WideSide, TotalSize}
-use Rattle.terms.proofs.StandsLaws.{Value, stands-value, stands-is, stands-most, stands-add, stands-div, skip-first, skip-next}
-use Rattle.terms.proofs.StandsLaws.Value.{absent, known}
-use Rattle.terms.proofs.Sound.{three-places}
-use Rattle.guideline.specs.declared.SideGuidelines.{SideGuidelines}
+use Rattle.decimal.proofs.Value.{skip-first, skip-next, Inside, value-inside}
+use Rattle.terms.proofs.StandsLaws.{stands-value, stands-is, stands-add, stands-div}
+use Rattle.formulas.proofs.Sound.{three-places}
 use Rattle.guideline.specs.declared.Column.{Column}
 use Rattle.guideline.specs.Column.{ColumnFor, rangedOf, columnRanged, PrintableColumn, columnDecimals}
-use Rattle.guideline.specs.Guideline.{sideOf, sideDecimals, allRanged}
+use Rattle.guideline_rules.specs.Guideline.{sideOf, sideDecimals, allRanged}
 
 pub stands-wide : {w : ℕ} {r : Biased} {d : Decimal} → w ≤ 600 → Stands w r d → Wide r
 stands-wide h s = record { most = s .most; low = omega (arith, s .low); high = omega (arith, s .high) }
@@ -43,21 +40,6 @@ wide-range w = record { most = w .most; low = omega (arith, w .low); high = omeg
 
 pub total-range : {r : Biased} → TotalSize r → InRange r
 total-range w = record { most = w .most; low = omega (arith, w .low); high = omega (arith, w .high) }
-
--- ---- the exponent of what a number stands for
-raised-inside : (e : ℤ) → 0 < raised e → inRange e ≡ true
-raised-inside e = cases (inRange e)
-  where
-    cases : (b : Bool) → 0 < cond b (raise e) 0 → b ≡ true
-    cases true h = refl
-    cases false h = absurd (omega (arith, h))
-
-pub record Inside (d : Decimal) : Type 0 where
-  pub inside : inRange (d .e) ≡ true
-
-pub value-inside : {w : ℕ} {d : Decimal} → Value w d → Inside d
-value-inside (absent e) = record { inside = rw e }
-value-inside {w} {d} (known s) = record { inside = raised-inside (d .e) (s .some) }
 
 pub stands-inside : {w : ℕ} {r : Biased} {d : Decimal} → w ≤ 990 → Stands w r d → Inside d
 stands-inside h s = value-inside (stands-value h s)

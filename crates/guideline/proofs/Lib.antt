@@ -1,5 +1,2 @@
 pub mod ColumnBounds
-pub mod WorkedOut
 pub mod Steps
-pub mod Promises
-pub mod MarkedFigures

@@ -1,15 +1,10 @@
 -- What the code keeps of a side's guidelines: numbers, and the equations that make them.
 use mathlib.Core.Path.{_≡_}
-use mathlib.Core.Bool.{Bool, true, false, _&&_}
-use Prim.Native.Nat.{ℕ, _≤_, _<_}
-use lib.Dec.{eqb, ltb}
+use mathlib.Core.Bool.{Bool, _&&_}
+use lib.Dec.{ltb}
 use Rattle.decimal.specs.Decimal.{decimalOf, Printable}
-use Rattle.inputs.specs.declared.Scenario.{Scenario}
-use Rattle.inputs.specs.declared.Contaminant.{Contaminant}
-use Rattle.inputs.specs.Inputs.{scenarioDecimals, contaminantDecimals}
-use Rattle.inputs.specs.Valid.{allValid}
-use Rattle.terms.specs.Side.{OneOrTwo, TotalSize}
-use Rattle.guideline.specs.declared.SideGuidelines.{SideGuidelines}
+use Rattle.terms.specs.Side.{TotalSize}
+use Rattle.guideline_rules.specs.declared.SideGuidelines.{SideGuidelines}
 use Rattle.rounding.specs.declared.Direction.the-variants.{Down, Up}
 use Rattle.rounding.specs.declared.Biased.{Biased}
 use Rattle.rounding.specs.Operations.{quotientOf, sumOf}
@@ -41,12 +36,3 @@ pub record PrintableColumn (c : Column) : Type 0 where
 
 abbrev pub columnDecimals : Column → SideGuidelines
 columnDecimals c = record { first = decimalOf (c .first); second = decimalOf (c .second); third = decimalOf (c .third); total = decimalOf (c .total) }
-
--- inputs that passed conditions 4 and 6
-pub record Accepted (s : Scenario) (medium : ℕ) (r : Contaminant) : Type 0 where
-  pub scenario : allValid (scenarioDecimals s) ≡ true
-  pub contaminant : allValid (contaminantDecimals r) ≡ true
-  pub media : OneOrTwo medium
-  pub class : OneOrTwo (r .class)
-  pub risk-target : eqb (s .tr .m) 0 ≡ false
-  pub hazard-target : eqb (s .thi .m) 0 ≡ false

@@ -1,4 +1,1 @@
-pub mod Guideline
 pub mod Column
-pub mod Promise
-pub mod Figures

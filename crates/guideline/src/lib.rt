@@ -1,5 +1,7 @@
 // The single guideline: from one scenario, one medium and one contaminant to the concentrations that may stay.
 use decimal::Decimal;
+use guideline_rules::GuidelineAnswer;
+use guideline_rules::SideGuidelines;
 use inputs::Contaminant;
 use inputs::Scenario;
 use inputs::both;
@@ -12,31 +14,15 @@ use rounding::Direction;
 use terms::pathways::Side;
 use terms::pathways::Terms;
 ghost use mathlib.Core.Path.{_≡_};
-ghost use mathlib.Core.Bool.{true, _&&_};
 ghost use Rattle.rounding.specs.declared.Direction.the-variants.{Down, Up};
 ghost use Rattle.rounding.specs.Biased.{InRange};
 ghost use Rattle.rounding.specs.Operations.{quotientOf};
 ghost use Rattle.terms.specs.Side.{Wide, WideSide};
-ghost use Rattle.terms.specs.Formula.{pathwaysOf};
-ghost use Rattle.terms.specs.Term.{inputsOf, valuesOf};
-ghost use Rattle.guideline.specs.Column.{ColumnFor, rangedOf, columnRanged, PrintableColumn, columnDecimals, Accepted};
-ghost use Rattle.guideline.specs.Guideline.{zeroSide, refused as refusedOf, workedOut, guidelineOf};
-
-// The guidelines of a side: three pathways and the total; zero where absent.
-pub struct SideGuidelines {
-    pub first: Decimal,
-    pub second: Decimal,
-    pub third: Decimal,
-    pub total: Decimal,
-}
-
-// The answer: accepted with the guidelines of both sides, or a refusal, its block and zeros.
-pub struct GuidelineAnswer {
-    pub refusal: Refusal,
-    pub block: u32,
-    pub risk: SideGuidelines,
-    pub hazard: SideGuidelines,
-}
+ghost use Rattle.formulas.specs.Formula.{pathwaysOf};
+ghost use Rattle.formulas.specs.Term.{inputsOf, valuesOf};
+ghost use Rattle.guideline.specs.Column.{ColumnFor, rangedOf, columnRanged, PrintableColumn, columnDecimals};
+ghost use Rattle.guideline_rules.proofs.Accepted.{Accepted};
+ghost use Rattle.guideline_rules.specs.Guideline.{zeroSide, refused as refusedOf, workedOut, guidelineOf};
 
 // The guidelines of a side as numbers, with the sum of the terms.
 pub struct Column {

@@ -1,8 +1,8 @@
 // Reads guideline cases on standard input, 44 little-endian words each, and prints a line for each: the refusal, the
 // block and the eight guidelines.
 use decimal::Decimal;
-use guideline::GuidelineAnswer;
-use guideline::SideGuidelines;
+use guideline_rules::GuidelineAnswer;
+use guideline_rules::SideGuidelines;
 use inputs::Contaminant;
 use inputs::Scenario;
 use libc::STDIN_FILENO;

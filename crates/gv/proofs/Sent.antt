@@ -1,5 +1,5 @@
 -- What the exported writers send back and leave, by their tests. Assumes nothing.
-use mathlib.Core.Path.{_≡_, refl, sym, ap, ap₂, _∙_}
+use mathlib.Core.Path.{_≡_, refl}
 use mathlib.Core.Bool.{Bool, true, false, cond, _&&_}
 use mathlib.Core.List.{List}
 use Prim.Native.Nat.{ℕ, _≤_, _<_}
@@ -10,7 +10,7 @@ use Rattle.outcome.specs.declared.Refusal.{Refusal}
 use Rattle.outcome.specs.declared.Refusal.the-variants.{Field, Room}
 use Rattle.outcome.specs.Outcome.{numberOf}
 use Rattle.fields.specs.Fields.{unusedZero}
-use Rattle.writers.specs.Answers.{leftBy}
+use Rattle.block_rules.specs.Answers.{leftBy}
 
 -- room, then form, then the writer's own answer: once for both writers
 abbrev pub sentBy : List ℕ → Bool → Refusal → Refusal

@@ -1,18 +1,18 @@
 // The functions of the C library. Each takes numbers and lent bytes, and calls the proved function behind it.
-use blocks::Header;
+use block_rules::Header;
 use inputs::Scenario;
 use outcome::Refusal;
 ghost use mathlib.Core.Path.{_≡_};
 ghost use lib.ListN.{length};
 ghost use Rattle.outcome.specs.Outcome.{numberOf};
-ghost use Rattle.sums.specs.declared.SumsAnswer.{SumsAnswer};
-ghost use Rattle.site.specs.Site.{siteAnswer};
-ghost use Rattle.site.specs.Results.{siteLeft};
-ghost use Rattle.listing.specs.Listing.{textLength, textLeft};
-ghost use Rattle.gv.specs.Exports.{packed, headerSent, headerPut, contaminantSent, contaminantPut, builtInSent, builtInPut};
+ghost use Rattle.sum_rules.specs.declared.SumsAnswer.{SumsAnswer};
+ghost use Rattle.site_rules.specs.Site.{siteAnswer};
+ghost use Rattle.site_rules.specs.Results.{siteLeft};
+ghost use Rattle.listing_rules.specs.Listing.{textLength, textLeft};
+ghost use Rattle.gv_rules.specs.Exports.{packed, headerSent, headerPut, contaminantSent, contaminantPut, builtInSent, builtInPut};
 
 // The four numbers of an answer in one.
-pub fn pack(a: sums::SumsAnswer) -> u64
+pub fn pack(a: sum_rules::SumsAnswer) -> u64
     ensures { λ n. ⌜ n ≡ packed a ⌝ }
 {
     let refusal = a.refusal;

@@ -6,7 +6,7 @@ ghost use mathlib.Core.Path.{_≡_};
 ghost use Prim.Native.Nat.{_≤_};
 ghost use lib.ListN.{length, take};
 ghost use Rattle.io.specs.Counts.{Counts};
-ghost use Rattle.listing.specs.Listing.{listingOf};
+ghost use Rattle.listing_rules.specs.Listing.{listingOf};
 
 // What was read: how many bytes stand at the start of the buffer, and whether every read went well.
 struct Input {

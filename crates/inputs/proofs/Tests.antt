@@ -1,16 +1,18 @@
 -- Tests joined by `&&`, and what a valid decimal is. Assumes nothing.
-use mathlib.Core.Path.{_≡_, refl, sym, ap, _∙_}
-use mathlib.Core.Bool.{Bool, true, false, not, _&&_}
+use mathlib.Core.Path.{_≡_, refl}
+use mathlib.Core.Logic.{inl, inr}
+use mathlib.Core.Bool.{Bool, true, false, _&&_, _||_}
 use mathlib.Core.List.{List, [], _∷_, _++_}
 use Prim.Native.Nat.{ℕ, zero, suc, _≤_, _<_}
 use native.Mathlib.Omega.{arith}
 use lib.Dec.{eqb, leb}
 use lib.ListN.{getD}
-use borrow.Author.Tests.{leb-true}
+use borrow.Author.Tests.{leb-true, eqb-true}
 use Rattle.decimal.specs.declared.Decimal.{Decimal}
 use Rattle.decimal.specs.Exponent.{raised}
 use Rattle.decimal.specs.Decimal.{zeroOf}
 use Rattle.inputs.specs.Valid.{validOf, allValid}
+use Rattle.inputs.specs.Rules.{oneOrTwo, OneOrTwo}
 
 pub and-true : (b : Bool) → b && true ≡ b
 and-true true = refl
@@ -44,3 +46,20 @@ valid-at (d ∷ ds) v (suc n) = valid-at ds (and-split (validOf d) (allValid ds)
 pub valid-append : (x y : List Decimal) → allValid x ≡ true → allValid y ≡ true → allValid (x ++ y) ≡ true
 valid-append [] y h k = k
 valid-append (d ∷ ds) y h k = let a = and-split (validOf d) (allValid ds) h in rw (a .0) (valid-append ds y (a .1) k)
+
+-- ---- the conditions that were passed
+pub one-or-two : (n : ℕ) → oneOrTwo n ≡ true → OneOrTwo n
+one-or-two n = cases (eqb n 1) (eqb n 2) refl refl
+  where
+    cases : (b c : Bool) → eqb n 1 ≡ b → eqb n 2 ≡ c → b || c ≡ true → OneOrTwo n
+    cases true c e g h = inl (eqb-true n 1 e)
+    cases false true e g h = inr (eqb-true n 2 g)
+    cases false false e g h = absurd (let z : _≡_ {A = ℕ} 0 1 = cc in omega arith)
+
+pub other-one : {n : ℕ} → OneOrTwo n → (n ≡ 1 → ⊥) → n ≡ 2
+other-one (inl e) h = absurd (h e)
+other-one (inr e) h = e
+
+pub other-two : {n : ℕ} → OneOrTwo n → (n ≡ 2 → ⊥) → n ≡ 1
+other-two (inl e) h = e
+other-two (inr e) h = absurd (h e)

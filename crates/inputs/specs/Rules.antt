@@ -1,5 +1,7 @@
 -- The rules of paper 01 that a scenario and a contaminant have to keep, wherever they come from.
-use mathlib.Core.Bool.{Bool, not, _&&_, _||_}
+use mathlib.Core.Path.{_≡_}
+use mathlib.Core.Logic.{_⊎_}
+use mathlib.Core.Bool.{Bool, true, false, not, _&&_, _||_}
 use Prim.Native.Nat.{ℕ}
 use lib.Dec.{eqb}
 use Rattle.inputs.specs.declared.Scenario.{Scenario}
@@ -22,3 +24,13 @@ lacksFactor s =
 -- 4: a decimal, the class or the id breaks its rule
 abbrev pub contaminantFits : Contaminant → Bool
 contaminantFits r = oneOrTwo (r .class) && (not (eqb (r .id) 0) && allValid (contaminantDecimals r))
+
+-- a medium or a class
+abbrev pub OneOrTwo : ℕ → Type 0
+OneOrTwo n = (n ≡ 1) ⊎ (n ≡ 2)
+
+-- inputs that passed conditions 4 and 6
+pub record Checked (s : Scenario) (medium : ℕ) (r : Contaminant) : Type 0 where
+  pub scenario : scenarioFits s medium ≡ true
+  pub factors : lacksFactor s ≡ false
+  pub contaminant : contaminantFits r ≡ true

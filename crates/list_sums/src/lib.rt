@@ -1,9 +1,9 @@
 // The list call: the sums and the verdicts of a lent list of contaminants, record by record.
 use inputs::Contaminant;
 use inputs::Scenario;
-use sums::SumsAnswer;
+use sum_rules::SumsAnswer;
 ghost use mathlib.Core.Path.{_≡_};
-ghost use Rattle.sums.specs.ListCall.{sumsOf};
+ghost use Rattle.sum_rules.specs.ListCall.{sumsOf};
 
 // The answer of a list: the plan, the first state, a step for each record in its order, and the answer of the last state.
 pub fn sums_of_list(s: Scenario, medium: u32, list: &[Contaminant]) -> SumsAnswer

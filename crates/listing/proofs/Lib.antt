@@ -1,6 +1,4 @@
-pub mod Spelling
-pub mod Chains
-pub mod LineParts
+pub mod BlockLines
 pub mod Progress
 pub mod ResultLines
 pub mod Listings

@@ -1,29 +1,26 @@
 -- The listing of an answer: a refusal alone, or the lines of the site whose header was found; and how long it is at most. Assumes nothing.
-use mathlib.Core.Path.{_≡_, refl, sym, ap, subst, _∙_}
+use mathlib.Core.Path.{_≡_, sym, ap, subst, _∙_}
 use mathlib.Core.Bool.{Bool, true, false, cond}
 use mathlib.Core.List.{List, _++_}
 use Prim.Native.Nat.{ℕ, _/_, _≤_, _<_}
 use native.Mathlib.Omega.{arith}
-use lib.Dec.{eqb, leb}
+use lib.Dec.{leb}
 use lib.ListN.{length, getD, take, drop, length-append}
 use lib.Seq.{take-append-seam}
-use borrow.Author.Tests.{eqb-true, eq-eqb, ne-eqb, le-leb, lt-leb}
+use borrow.Author.Tests.{eq-eqb, ne-eqb, le-leb, lt-leb}
 use Rattle.outcome.specs.declared.Refusal.{Refusal}
 use Rattle.outcome.specs.Outcome.{numberOf}
 use Rattle.words.specs.Bytes.{over}
-use Rattle.blocks.specs.declared.Header.{Header}
-use Rattle.blocks.specs.declared.HeaderRead.the-variants as H
-use Rattle.blocks.specs.Blocks.{headerRead}
-use Rattle.sums.specs.declared.SumsAnswer.{SumsAnswer}
-use Rattle.site.specs.Site.{blockAt, siteAnswer}
-use Rattle.site.specs.Results.{headerOf, siteLeft}
-use Rattle.site.specs.Check.{Opened}
-use Rattle.site.proofs.Answers.{count-most}
-use Rattle.site.proofs.Passed.{passed-site}
-use Rattle.listing.specs.Lines.{sumLine, refusalLine}
-use Rattle.listing.specs.Listing.{acceptedText, textOf, listingOf, textRoom, textLength, textLeft}
+use Rattle.block_rules.specs.declared.Header.{Header}
+use Rattle.block_rules.specs.declared.HeaderRead.the-variants as H
+use Rattle.block_rules.specs.Reading.{headerRead}
+use Rattle.sum_rules.specs.declared.SumsAnswer.{SumsAnswer}
+use Rattle.site_rules.specs.Site.{blockAt, siteAnswer}
+use Rattle.site_rules.specs.Results.{headerOf, siteLeft}
+use Rattle.site_rules.specs.Passed.{Opened}
+use Rattle.listing_rules.specs.Lines.{sumLine, refusalLine}
+use Rattle.listing_rules.specs.Listing.{acceptedText, textOf, listingOf, textRoom, textLength, textLeft}
 use Rattle.listing.specs.Asked.{blockText, Written, Answered}
-use Rattle.listing.proofs.LineParts.{sum-most, refusal-most, lines-to-most}
 use Rattle.listing.proofs.ResultLines.{written}
 
 -- ---- an accepted answer has written its result blocks
@@ -82,24 +79,3 @@ module _ (site : List ℕ) (out : ℕ) (text : List ℕ) where
       let long : n ≡ length l = rw e at p in
       let is : left ≡ l ++ rest = rw e at q in
       (omega (arith, long, ap length is, length-append l rest), rw (long, is) (take-append-seam l rest))
-
--- ---- no listing is longer than the text that `list_site` asks for
-module _ (site : List ℕ) (a : SumsAnswer) where
-  accepted-most : Opened site (headerOf site) → length (acceptedText site a) ≤ 24576
-  unfolding acceptedText
-  accepted-most o =
-      let h = headerOf site in
-      simp length-append
-      (omega (arith, lines-to-most (h .scenario) (h .medium) site (h .count), count-most o, sum-most 0 (a .risk), sum-most 1 (a .hazard)))
-
-  text-most : (numberOf (a .refusal) ≡ 0 → Opened site (headerOf site)) → length (textOf site a) ≤ 24576
-  unfolding textOf
-  text-most w = cases (eqb (numberOf (a .refusal)) 0) refl
-    where
-      cases : (b : Bool) → eqb (numberOf (a .refusal)) 0 ≡ b → length (cond b (acceptedText site a) (refusalLine (numberOf (a .refusal)) (a .block))) ≤ 24576
-      cases true e = accepted-most (w (eqb-true (numberOf (a .refusal)) 0 e))
-      cases false e = omega (arith, refusal-most (numberOf (a .refusal)) (a .block))
-
-pub listing-most : (site : List ℕ) (out : ℕ) → length (listingOf site out) ≤ 24576
-unfolding listingOf
-listing-most site out = text-most site (siteAnswer site out) (λ z. passed-site site out z .opened)

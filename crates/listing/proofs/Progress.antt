@@ -4,11 +4,11 @@ use mathlib.Core.List.{List, _++_}
 use Prim.Native.Nat.{ℕ, _+_, _*_, _≤_}
 use native.Mathlib.Omega.{arith}
 use lib.ListN.{length}
-use Rattle.site.specs.Site.{blockAt}
+use Rattle.site_rules.specs.Site.{blockAt}
 use Rattle.words.specs.Bytes.{placed, over}
 use Rattle.words.proofs.Written.{Wrote, wrote-none, wrote-next, over-length}
 use Rattle.listing.specs.Asked.{blockLines, blockLinesTo}
-use Rattle.listing.proofs.LineParts.{blocks-next, blocks-most}
+use Rattle.listing.proofs.BlockLines.{blocks-next, blocks-most}
 
 pub wrote-then : {l p d : List ℕ} {at : ℕ} → Wrote l p d at → (w : List ℕ) {l′ : List ℕ} {end : ℕ} → (end ≡ at + length w) × (l′ ≡ placed l at w) → Wrote l′ (p ++ w) d end
 wrote-then {l} {p} {d} {at} W w {l′} {end} q = subst (Wrote l′ (p ++ w) d) (sym (q .0)) (wrote-next l′ w (length w) W (q .1) refl)

@@ -20,28 +20,27 @@ use Rattle.decimal.proofs.OperandFacts.{operand-is}
 use Rattle.outcome.specs.Outcome.{numberOf}
 use Rattle.inputs.specs.declared.Scenario.{Scenario}
 use Rattle.inputs.proofs.Tests.{and-split}
-use Rattle.terms.specs.Formula.{Formula, none, TR, THI, pathwaysOf}
-use Rattle.terms.specs.Term.{look, termOf, totalOf, inputsOf, valuesOf}
+use Rattle.formulas.specs.Formula.{Formula, none, TR, THI, pathwaysOf}
+use Rattle.formulas.specs.Term.{look, termOf, totalOf, inputsOf, valuesOf}
 use Rattle.words.specs.Words.{wordAt}
 use Rattle.words.proofs.Parts.{word-part}
 use Rattle.fields.specs.Fields.{decimalsAt, InField}
-use Rattle.blocks.specs.Blocks.{contaminantAt}
-use Rattle.guideline.specs.declared.SideGuidelines.{SideGuidelines}
-use Rattle.guideline.specs.declared.GuidelineAnswer.{GuidelineAnswer}
-use Rattle.guideline.specs.Guideline.{sideOf, sideDecimals, allRanged, guidelineOf}
-use Rattle.guideline.proofs.Steps.{accepted-inputs}
-use Rattle.guideline.proofs.Promises.{ranged, accepted-is}
-use Rattle.writers.specs.Blocks.{guidelineDecimals}
-use Rattle.writers.proofs.ResultsBack.{ResultRead, result-back}
-use Rattle.site.specs.Site.{blockAt, siteAnswer}
-use Rattle.site.specs.Results.{headerOf, recordAt, resultAt, siteLeft}
-use Rattle.site.proofs.Walks.{check-ok}
-use Rattle.site.proofs.Answers.{checking, count-most}
-use Rattle.site.proofs.Passed.{PassedSite, passed-site}
-use Rattle.site.proofs.Promises.{site-guidelines}
-use Rattle.site.proofs.OutputBlocks.{result-block, output-length}
-use Rattle.listing.specs.Lines.{linesOf}
-use Rattle.listing.specs.Listing.{linesTo}
+use Rattle.block_rules.specs.Reading.{contaminantAt}
+use Rattle.guideline_rules.specs.declared.SideGuidelines.{SideGuidelines}
+use Rattle.guideline_rules.specs.declared.GuidelineAnswer.{GuidelineAnswer}
+use Rattle.guideline_rules.specs.Guideline.{sideOf, sideDecimals, allRanged, guidelineOf}
+use Rattle.guideline_rules.proofs.Accepted.{accepted-inputs}
+use Rattle.guideline_rules.proofs.Promises.{ranged, accepted-is}
+use Rattle.block_rules.specs.Layouts.{guidelineDecimals}
+use Rattle.block_rules.proofs.ResultsBack.{ResultRead, result-back}
+use Rattle.site_rules.specs.Site.{blockAt, siteAnswer}
+use Rattle.site_rules.specs.Results.{headerOf, recordAt, resultAt, siteLeft}
+use Rattle.site_rules.proofs.Opened.{opened-fits, opened-known, count-most}
+use Rattle.site_rules.proofs.Passed.{PassedSite, passed-site}
+use Rattle.site_rules.proofs.Promises.{site-guidelines}
+use Rattle.site_rules.proofs.OutputBlocks.{result-block, output-length}
+use Rattle.listing_rules.specs.Lines.{linesOf}
+use Rattle.listing_rules.specs.Listing.{linesTo}
 use Rattle.listing.specs.Asked.{sideRead, blockLines, blockLinesTo, Written}
 
 -- ---- a guideline fits its field
@@ -124,7 +123,7 @@ module _ (site out : List ℕ) (z : numberOf (siteAnswer site (length out) .refu
         let r = recordAt site k in
         let vs = valuesOf Up (inputsOf s r) in
         let o = passed .opened in
-        let a = accepted-inputs s medium r (checking o .fits) (checking o .known) (check-ok s medium site count 1 0 (passed .checked) k first (omega arith) .fits) in
+        let a = accepted-inputs s medium r (opened-fits o) (opened-known o) (passed .records k first last .fits) in
         subst (λ (g : GuidelineAnswer). (n : ℕ) → InField (getD (guidelineDecimals (g .risk) (g .hazard)) n zeroOf)) (sym (accepted-is s medium r (site-guidelines site (length out) z k first last)))
         (all-fit vs (look vs TR) (look vs THI) (pathwaysOf medium (r .class) 0) (pathwaysOf medium (r .class) 1) (ranged s medium r a 0 (lit< tt)) (ranged s medium r a 1 (lit< tt)))
 

@@ -6,13 +6,13 @@ use lib.ListN.{length}
 use Rattle.outcome.specs.Outcome.{numberOf}
 use Rattle.words.specs.Words.{wordAt}
 use Rattle.fields.specs.Fields.{decimalAt}
-use Rattle.guideline.specs.declared.SideGuidelines.{SideGuidelines}
-use Rattle.sums.specs.declared.SumsAnswer.{SumsAnswer}
-use Rattle.site.specs.Site.{blockAt}
-use Rattle.site.specs.Results.{headerOf}
-use Rattle.site.specs.Check.{Opened}
-use Rattle.listing.specs.Lines.{linesOf, sumLine}
-use Rattle.listing.specs.Listing.{linesTo}
+use Rattle.guideline_rules.specs.declared.SideGuidelines.{SideGuidelines}
+use Rattle.sum_rules.specs.declared.SumsAnswer.{SumsAnswer}
+use Rattle.site_rules.specs.Site.{blockAt}
+use Rattle.site_rules.specs.Results.{headerOf}
+use Rattle.site_rules.specs.Passed.{Opened}
+use Rattle.listing_rules.specs.Lines.{linesOf, sumLine}
+use Rattle.listing_rules.specs.Listing.{linesTo}
 
 -- four decimals from `at` on
 unfoldable pub sideRead : List ℕ → ℕ → SideGuidelines

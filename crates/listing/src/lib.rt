@@ -1,17 +1,14 @@
 // The listing of a site: its guidelines, sums and verdicts as text.
-mod lines;
-mod spelt;
-
-use blocks::HeaderRead;
-use guideline::SideGuidelines;
-use sums::SumsAnswer;
+use block_rules::HeaderRead;
+use guideline_rules::SideGuidelines;
+use sum_rules::SumsAnswer;
 ghost use mathlib.Core.Path.{_≡_};
 ghost use Prim.Native.Nat.{_+_, _≤_};
 ghost use lib.ListN.{length};
 ghost use Rattle.words.specs.Bytes.{placed, over};
-ghost use Rattle.site.specs.Site.{siteAnswer};
-ghost use Rattle.site.specs.Results.{siteLeft};
-ghost use Rattle.listing.specs.Listing.{textOf, textLength, textLeft};
+ghost use Rattle.site_rules.specs.Site.{siteAnswer};
+ghost use Rattle.site_rules.specs.Results.{siteLeft};
+ghost use Rattle.listing_rules.specs.Listing.{textOf, textLength, textLeft};
 ghost use Rattle.listing.specs.Asked.{sideRead, blockLines, blockLinesTo, blockText, Listing, Answered};
 
 // The answer of the site call, and the listing's length.

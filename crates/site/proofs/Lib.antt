@@ -5,9 +5,3 @@ pub mod OneBlock
 pub mod Running
 pub mod Answers
 pub mod Planned
-pub mod Passed
-pub mod SameSums
-pub mod Promises
-pub mod OutputBlocks
-pub mod WrittenSite
-pub mod RefusalTable

@@ -1,36 +1,36 @@
 -- One block of the writing walk: its columns are the guidelines of the single guideline, and its shares make the next sums. Assumes nothing.
-use mathlib.Core.Path.{_≡_, refl, sym, ap, subst, _∙_}
-use mathlib.Core.Bool.{Bool, true, false, not, _&&_, _||_}
+use mathlib.Core.Path.{_≡_, sym, ap, subst, _∙_}
+use mathlib.Core.Bool.{false, _&&_}
 use mathlib.Core.List.{List}
 use Prim.Native.Nat.{ℕ, _+_, _*_, _-_, _≤_}
 use lib.Dec.{eqb}
 use lib.ListN.{take, drop}
 use borrow.Author.Tests.{not-true}
-use Rattle.rounding.specs.declared.Biased.{Biased}
 use Rattle.inputs.specs.declared.Scenario.{Scenario}
 use Rattle.inputs.specs.declared.Contaminant.{Contaminant}
-use Rattle.blocks.specs.Blocks.{contaminantAt}
+use Rattle.block_rules.specs.Reading.{contaminantAt}
 use Rattle.blocks.proofs.Answers.{contaminant-here}
-use Rattle.guideline.specs.declared.GuidelineAnswer.{GuidelineAnswer}
-use Rattle.guideline.specs.declared.SideGuidelines.{SideGuidelines}
-use Rattle.writers.specs.Blocks.{resultBlock}
+use Rattle.guideline_rules.specs.declared.GuidelineAnswer.{GuidelineAnswer}
+use Rattle.guideline_rules.specs.declared.SideGuidelines.{SideGuidelines}
+use Rattle.block_rules.specs.Layouts.{resultBlock}
 use Rattle.terms.specs.Side.{Wide, WideSide}
 use Rattle.guideline.specs.declared.Column.{Column}
 use Rattle.guideline.specs.Column.{ColumnFor, PrintableColumn, columnDecimals}
-use Rattle.guideline.specs.Guideline.{guidelineOf, accepted}
+use Rattle.guideline_rules.specs.Guideline.{guidelineOf, accepted}
 use Rattle.guideline.proofs.ColumnBounds.{column-printable}
 use Rattle.guideline.proofs.Steps.{Terms-of, Columns-of, wide, risk-column, hazard-column, any-risk, any-hazard, accepted-out}
-use Rattle.guideline.proofs.WorkedOut.{either}
+use Rattle.guideline_rules.proofs.WorkedOut.{either}
 use Rattle.sums.specs.declared.shares.Plan.{Plan}
 use Rattle.sums.specs.declared.shares.Worked.{Worked}
 use Rattle.sums.specs.declared.shares.Runs.{Runs}
-use Rattle.sums.specs.Share.{hasPathway}
+use Rattle.sum_rules.specs.Share.{hasPathway}
 use Rattle.sums.specs.Plan.{PlanReady, PlanFits, Workable, WorkedFor, Addable, Added}
 use Rattle.sums.specs.State.{RunsReady}
 use Rattle.sums.proofs.Steps.{inputs-of, next-runs, addable}
-use Rattle.site.specs.Site.{blockAt}
-use Rattle.site.specs.Results.{recordAt, resultAt}
-use Rattle.site.specs.Check.{RecordOk, OneMore}
+use Rattle.site_rules.specs.Site.{blockAt}
+use Rattle.site_rules.specs.Results.{recordAt, resultAt}
+use Rattle.site_rules.specs.Passed.{RecordOk}
+use Rattle.site.specs.Check.{OneMore}
 
 -- the contaminant that is read from the middle of a block is its record
 pub read-is : (site : List ℕ) (place : ℕ) (r : Contaminant) → r ≡ contaminantAt (take (512 * place + 508 - (512 * place + 4)) (drop (512 * place + 4) site)) 4 → r ≡ recordAt site place

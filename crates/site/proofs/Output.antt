@@ -1,30 +1,21 @@
 -- The output while the result blocks are written: each lent part comes back with its block, and nothing else changes. Assumes nothing.
 use mathlib.Core.Path.{_≡_, refl, sym, ap, _∙_}
 use mathlib.Core.List.{List, [], _++_, append-assoc, append-nil}
-use Prim.Native.Nat.{ℕ, zero, suc, _+_, _*_, _-_, _≤_}
+use Prim.Native.Nat.{ℕ, _+_, _*_, _-_, _≤_}
 use native.Mathlib.Omega.{arith}
 use native.Mathlib.Numerals.{add-one}
 use lib.ListN.{length, take, drop, take-append-drop, length-append}
 use lib.Seq.{length-take-le, drop-append-seam}
 use Rattle.inputs.specs.declared.Scenario.{Scenario}
 use Rattle.words.specs.Bytes.{over}
-use Rattle.words.proofs.Written.{lent-part, over-length, over-none}
-use Rattle.sums.specs.declared.SumsAnswer.{SumsAnswer}
-use Rattle.sums.specs.declared.SideSums.{SideSums}
-use Rattle.writers.specs.Blocks.{resultBlock, summaryBlock}
-use Rattle.writers.proofs.ResultsBack.{result-length, summary-length}
-use Rattle.site.specs.Results.{resultAt, resultsTo}
+use Rattle.words.proofs.Written.{lent-part, over-length}
+use Rattle.sum_rules.specs.declared.SideSums.{SideSums}
+use Rattle.block_rules.specs.Layouts.{summaryBlock}
+use Rattle.block_rules.proofs.ResultsBack.{summary-length}
+use Rattle.site_rules.proofs.OutputBlocks.{result-long, results-long}
+use Rattle.site_rules.specs.Results.{resultAt, resultsTo}
 
 module _ (s : Scenario) (medium : ℕ) (site : List ℕ) where
-  pub result-long : (k : ℕ) → length (resultAt s medium site k) ≡ 512
-  unfolding resultAt
-  result-long k = result-length _ _ _ _ _
-
-  pub results-long : (n : ℕ) → length (resultsTo s medium site n) ≡ 512 * n
-  unfolding resultsTo
-  results-long zero = refl
-  results-long (suc n) = length-append (resultsTo s medium site n) (resultAt s medium site (suc n)) ∙ omega (arith, results-long n, result-long (suc n))
-
   pub results-next : (k : ℕ) → resultsTo s medium site (k + 1) ≡ resultsTo s medium site k ++ resultAt s medium site (k + 1)
   unfolding resultsTo
   results-next k = ap (resultsTo s medium site) (add-one k) ∙ ap (λ (j : ℕ). resultsTo s medium site k ++ resultAt s medium site j) (sym (add-one k))
@@ -41,7 +32,7 @@ module _ (s : Scenario) (medium : ℕ) (site : List ℕ) where
 
     before-long : length before ≡ 512 * (k + 1)
     unfolding before
-    before-long = length-append (take 512 d) (resultsTo s medium site k) ∙ omega (arith, length-take-le 512 d (omega arith), results-long k)
+    before-long = length-append (take 512 d) (resultsTo s medium site k) ∙ omega (arith, length-take-le 512 d (omega arith), results-long s medium site k)
 
     pub out-long : length out ≡ length d
     unfolding before
@@ -52,7 +43,7 @@ module _ (s : Scenario) (medium : ℕ) (site : List ℕ) where
     unfolding before
     block-lent a b ea eb e =
         ap (λ (o : List ℕ). take a o ++ (y ++ drop (b - a) (drop a o))) was
-        ∙ lent-part before (resultAt s medium site (k + 1)) d y a b (before-long ∙ sym ea) (result-long (k + 1) ∙ omega arith) (omega arith) (omega arith)
+        ∙ lent-part before (resultAt s medium site (k + 1)) d y a b (before-long ∙ sym ea) (result-long s medium site (k + 1) ∙ omega arith) (omega arith) (omega arith)
         (e ∙ ap (λ (o : List ℕ). over (resultAt s medium site (k + 1)) (take (b - a) (drop a o))) was)
         ∙ ap (λ (t : List ℕ). over t d) (append-assoc (take 512 d) (resultsTo s medium site k) (resultAt s medium site (k + 1)) ∙ ap (λ (t : List ℕ). take 512 d ++ t) (sym (results-next k)))
 

@@ -1,16 +1,16 @@
 -- The sums while the result blocks are written: with the records that are left they come to the sums over all records. Assumes nothing.
-use mathlib.Core.Path.{_≡_, refl, sym, ap, subst, _∙_}
+use mathlib.Core.Path.{_≡_, sym, ap, subst, _∙_}
 use mathlib.Core.List.{List}
 use Prim.Native.Nat.{ℕ, _+_, _-_, _≤_, _<_}
 use native.Mathlib.Omega.{arith}
 use Rattle.sums.specs.declared.shares.Plan.{Plan}
 use Rattle.sums.specs.declared.shares.Runs.{Runs}
-use Rattle.sums.specs.Share.{Running, start, next, runAll}
+use Rattle.sum_rules.specs.Share.{Running, start, next, runAll}
 use Rattle.sums.specs.Plan.{runningOf, noRuns}
 use Rattle.sums.specs.State.{RunsReady}
 use Rattle.sums.proofs.States.{none-ready}
-use Rattle.site.specs.Results.{recordAt}
-use Rattle.site.specs.Check.{recordsFrom, OneMore, AllAdded}
+use Rattle.site_rules.specs.Results.{recordAt, recordsFrom}
+use Rattle.site.specs.Check.{OneMore, AllAdded}
 use Rattle.site.proofs.Turns.{run-turn, run-none}
 
 -- the sums x after the first k records

@@ -1,22 +1,21 @@
 -- One turn of the checking walk and of the writing walk: what is left from this place on stays the same. Assumes nothing.
-use mathlib.Core.Path.{_≡_, refl, sym, ap, _∙_}
+use mathlib.Core.Path.{_≡_, ap, _∙_}
 use mathlib.Core.Bool.{Bool, true, false, cond, _||_}
-use mathlib.Core.List.{List, [], _∷_}
-use Prim.Native.Nat.{ℕ, zero, suc, _+_, _-_, _≤_, _<_}
+use mathlib.Core.List.{List}
+use Prim.Native.Nat.{ℕ, suc, _+_, _-_, _≤_, _<_}
 use native.Mathlib.Omega.{arith}
-use lib.ListN.{length}
 use Rattle.outcome.specs.declared.Refusal.{Refusal}
 use Rattle.outcome.specs.declared.Refusal.the-variants.{Accepted, Pathway}
 use Rattle.inputs.specs.declared.Scenario.{Scenario}
 use Rattle.inputs.specs.declared.Contaminant.{Contaminant}
-use Rattle.blocks.specs.declared.ContaminantRead.{ContaminantRead}
-use Rattle.blocks.specs.declared.ContaminantRead.the-variants as C
-use Rattle.blocks.specs.Blocks.{contaminantRead}
-use Rattle.sums.specs.Share.{Running, next, runAll, hasPathway}
+use Rattle.block_rules.specs.declared.ContaminantRead.{ContaminantRead}
+use Rattle.block_rules.specs.declared.ContaminantRead.the-variants as C
+use Rattle.block_rules.specs.Reading.{contaminantRead}
+use Rattle.sum_rules.specs.Share.{Running, next, runAll, hasPathway}
 use Rattle.site.specs.declared.Checked.{Checked}
-use Rattle.site.specs.Site.{blockAt}
-use Rattle.site.specs.Results.{recordAt}
-use Rattle.site.specs.Check.{checked, afterRead, checkBlocks, recordsFrom}
+use Rattle.site_rules.specs.Site.{blockAt}
+use Rattle.site_rules.specs.Results.{recordAt, recordsFrom}
+use Rattle.site.specs.Check.{checked, afterRead, checkBlocks}
 
 module _ (s : Scenario) (medium : ℕ) (site : List ℕ) where
   -- ---- the checking walk

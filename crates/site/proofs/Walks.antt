@@ -1,46 +1,37 @@
 -- The walk over the blocks comes to what the checking walk finds, or else to the sums over all records: condition 9 cannot hold.
 -- Assumes nothing.
-use mathlib.Core.Path.{_≡_, refl, sym, ap, subst, _∙_}
+use mathlib.Core.Path.{_≡_, refl, ap, _∙_}
 use mathlib.Core.Bool.{Bool, true, false, cond, _&&_, _||_}
-use mathlib.Core.List.{List, [], _∷_}
-use mathlib.Core.Logic.{_⊎_, inl, inr}
+use mathlib.Core.List.{List, _∷_}
 use Prim.Native.Nat.{ℕ, zero, suc, _+_, _≤_, _<_}
 use native.Mathlib.Omega.{arith}
-use lib.Dec.{eqb, leb, lit<}
-use lib.ListN.{length}
-use borrow.Author.Tests.{ne-eqb, eqb-true, eqb-false}
+use lib.Dec.{eqb, lit<}
+use borrow.Author.Tests.{ne-eqb}
 use Rattle.outcome.specs.declared.Refusal.{Refusal}
-use Rattle.outcome.specs.declared.Refusal.the-variants.{Accepted, Pathway, Range}
+use Rattle.outcome.specs.declared.Refusal.the-variants.{Pathway, Range}
 use Rattle.outcome.specs.Outcome.{numberOf}
 use Rattle.inputs.specs.declared.Scenario.{Scenario}
 use Rattle.inputs.specs.declared.Contaminant.{Contaminant}
-use Rattle.inputs.specs.Rules.{scenarioFits, lacksFactor, contaminantFits}
-use Rattle.blocks.specs.declared.ContaminantRead.{ContaminantRead}
-use Rattle.blocks.specs.declared.ContaminantRead.the-variants as C
-use Rattle.blocks.specs.Blocks.{contaminantRead, contaminantAt}
-use Rattle.blocks.proofs.Found.{ContaminantFacts, contaminant-facts, contaminant-refused}
-use Rattle.guideline.specs.Guideline.{allRanged}
-use Rattle.guideline.proofs.Steps.{accepted-inputs}
-use Rattle.sums.specs.declared.SumsAnswer.{SumsAnswer}
-use Rattle.sums.specs.Share.{Running, next, runAll, hasPathway}
-use Rattle.sums.specs.ListCall.{blockDecimals, refused, accepted, walk}
-use Rattle.sums.proofs.InRange.{FairRun, fair-next, in-range}
+use Rattle.inputs.specs.Rules.{scenarioFits, lacksFactor}
+use Rattle.block_rules.specs.declared.ContaminantRead.{ContaminantRead}
+use Rattle.block_rules.specs.declared.ContaminantRead.the-variants as C
+use Rattle.block_rules.specs.Reading.{contaminantRead}
+use Rattle.block_rules.proofs.Found.{contaminant-refused}
+use Rattle.guideline_rules.specs.Guideline.{allRanged}
+use Rattle.guideline_rules.proofs.Accepted.{accepted-inputs}
+use Rattle.sum_rules.specs.declared.SumsAnswer.{SumsAnswer}
+use Rattle.sum_rules.specs.Share.{Running, next, runAll, hasPathway}
+use Rattle.sum_rules.specs.ListCall.{blockDecimals, refused, accepted, walk}
+use Rattle.sum_rules.proofs.InRange.{FairRun, fair-next, in-range}
 use Rattle.site.specs.declared.Checked.{Checked}
-use Rattle.site.specs.Site.{blockAt, onContaminant, walkBlocks}
-use Rattle.site.specs.Results.{recordAt}
-use Rattle.site.specs.Check.{checked, afterRead, checkBlocks, recordsFrom, RecordOk}
+use Rattle.site_rules.specs.Site.{blockAt, onContaminant, walkBlocks}
+use Rattle.site_rules.specs.Results.{recordAt, recordsFrom}
+use Rattle.site_rules.proofs.Opened.{found-record, found-is}
+use Rattle.site.specs.Check.{checked, afterRead, checkBlocks}
 
 -- what was found, or else the sums
 abbrev pub answerOf : Checked → SumsAnswer → SumsAnswer
 answerOf c a = cond (eqb (numberOf (c .refusal)) 0) a (refused (c .refusal) (c .block))
-
--- a contaminant that was found is the record of its block, and keeps its rules
-pub found-record : (site : List ℕ) (k before : ℕ) (r : Contaminant) → contaminantRead (blockAt site k) k before ≡ C.Found r → ContaminantFacts (blockAt site k) before r
-found-record site k before r e = contaminant-facts (blockAt site k) k before r e
-
-pub found-is : (site : List ℕ) (k before : ℕ) (r : Contaminant) → contaminantRead (blockAt site k) k before ≡ C.Found r → r ≡ recordAt site k
-unfolding recordAt
-found-is site k before r e = contaminant-facts (blockAt site k) k before r e .is
 
 module _ (s : Scenario) (medium : ℕ) (site : List ℕ) where
   -- the sums over the rest
@@ -78,28 +69,3 @@ module _ (s : Scenario) (medium : ℕ) (site : List ℕ) where
     walk-checked zero k before j risk hazard h f g = refl
     walk-checked (suc n) k before j risk hazard h f g =
         by-read n k before j risk hazard (omega (arith, h)) f g (λ id x y. walk-checked n (k + 1) id (j + 1) x y (omega (arith, h))) (contaminantRead (blockAt site k) k before) refl
-
-  -- ---- every record of a site without refusal keeps its rules and has a pathway
-  apart : (j k : ℕ) → k ≤ j → (b : Bool) → eqb j k ≡ b → (j ≡ k) ⊎ (k + 1 ≤ j)
-  apart j k l true e = inl (eqb-true j k e)
-  apart j k l false e = let q = eqb-false j k e in inr (omega (arith, l, q))
-
-  -- of the block at place k, or of one after it, by `again`
-  ok-found : (n k before j : ℕ) (r : Contaminant) → contaminantRead (blockAt site k) k before ≡ C.Found r → (j ≡ k) ⊎ (k + 1 ≤ j) →
-      (numberOf (checkBlocks s medium site n (k + 1) (r .id) .refusal) ≡ 0 → k + 1 ≤ j → RecordOk s medium (recordAt site j)) →
-      (b : Bool) → hasPathway s medium r 0 || hasPathway s medium r 1 ≡ b → numberOf (cond b (checkBlocks s medium site n (k + 1) (r .id)) (checked Pathway k) .refusal) ≡ 0 → RecordOk s medium (recordAt site j)
-  ok-found n k before j r e (inl q) again true h z =
-      subst (RecordOk s medium) (found-is site k before r e ∙ ap (recordAt site) (sym q)) (record { fits = found-record site k before r e .valid; pathway = h })
-  ok-found n k before j r e (inr q) again true h z = again z q
-  ok-found n k before j r e p again false h z = absurd (omega (arith, z))
-
-  ok-read : (n k before j : ℕ) → k ≤ j → ((id : ℕ) → numberOf (checkBlocks s medium site n (k + 1) id .refusal) ≡ 0 → k + 1 ≤ j → RecordOk s medium (recordAt site j)) →
-      (x : ContaminantRead) → contaminantRead (blockAt site k) k before ≡ x →
-      numberOf (afterRead x (λ (m : Refusal). checked m k) (λ (r : Contaminant). cond (hasPathway s medium r 0 || hasPathway s medium r 1) (checkBlocks s medium site n (k + 1) (r .id)) (checked Pathway k)) .refusal) ≡ 0 → RecordOk s medium (recordAt site j)
-  ok-read n k before j l again (C.Refused m) e z = absurd (contaminant-refused (blockAt site k) k before m e z)
-  ok-read n k before j l again (C.Found r) e z = ok-found n k before j r e (apart j k l (eqb j k) refl) (again (r .id)) (hasPathway s medium r 0 || hasPathway s medium r 1) refl z
-
-  pub check-ok : (n k before : ℕ) → numberOf (checkBlocks s medium site n k before .refusal) ≡ 0 → (j : ℕ) → k ≤ j → j < k + n → RecordOk s medium (recordAt site j)
-  unfolding checkBlocks
-  check-ok zero k before h j l u = absurd (omega (arith, l, u))
-  check-ok (suc n) k before h j l u = ok-read n k before j l (λ id z q. check-ok n (k + 1) id z j q (omega (arith, u))) (contaminantRead (blockAt site k) k before) refl h

@@ -1,5 +1,1 @@
-pub mod Site
-pub mod Results
 pub mod Check
-pub mod Written
-pub mod Refusals

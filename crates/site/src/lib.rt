@@ -1,10 +1,10 @@
 // The site call: the blocks of a site are checked one by one; then each has its result block in the output.
-use blocks::ContaminantRead;
-use blocks::Header;
-use blocks::HeaderRead;
+use block_rules::ContaminantRead;
+use block_rules::Header;
+use block_rules::HeaderRead;
 use inputs::Scenario;
 use outcome::Refusal;
-use sums::SumsAnswer;
+use sum_rules::SumsAnswer;
 use sums::shares::Plan;
 use sums::shares::Runs;
 ghost use mathlib.Core.Path.{_≡_};
@@ -12,9 +12,10 @@ ghost use mathlib.Core.List.{_++_};
 ghost use Prim.Native.Nat.{_+_, _*_, _≤_};
 ghost use lib.ListN.{length, take};
 ghost use Rattle.words.specs.Bytes.{over};
-ghost use Rattle.site.specs.Site.{lengthOk, siteAnswer};
-ghost use Rattle.site.specs.Results.{recordAt, resultAt, resultsTo, siteLeft};
-ghost use Rattle.site.specs.Check.{checkBlocks, recordsFrom, Opened, Checking, Writing, WritingOne, OneMore, AllAdded, allSums, blocksOf};
+ghost use Rattle.site_rules.specs.Site.{lengthOk, siteAnswer};
+ghost use Rattle.site_rules.specs.Results.{recordAt, resultAt, resultsTo, siteLeft, recordsFrom, allSums};
+ghost use Rattle.site.specs.Check.{checkBlocks, Checking, Writing, WritingOne, OneMore, AllAdded, blocksOf};
+ghost use Rattle.site_rules.specs.Passed.{Opened};
 
 // What the checking walk found: no refusal, or the first one and its block.
 pub struct Checked {
@@ -49,7 +50,7 @@ fn check_blocks(site: &[u8], s: Scenario, medium: u32, count: u32) -> Checked
                 };
             }
             ContaminantRead::Found(r) => {
-                if !sums::presence::has_pathway(s, medium, r) {
+                if !presence::has_pathway(s, medium, r) {
                     return Checked {
                         refusal: Refusal::Pathway,
                         block: place,

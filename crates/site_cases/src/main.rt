@@ -29,7 +29,7 @@ fn weigh(out: &[u8]) -> u32
 }
 
 // Prints a line: a word, a number, a line feed.
-fn print_answer(a: sums::SumsAnswer) {
+fn print_answer(a: sum_rules::SumsAnswer) {
     io::write_all(STDOUT_FILENO, b"answer ");
     io::print_hex(STDOUT_FILENO, gv::pack(a), 16);
     io::write_all(STDOUT_FILENO, b"\n");

@@ -1,10 +1,5 @@
-pub mod ShareBounds
-pub mod KnownValues
-pub mod Runs
-pub mod Verdicts
-pub mod InRange
+pub mod SameWalk
 pub mod States
 pub mod NextSums
 pub mod Steps
 pub mod Started
-pub mod ExampleSums

@@ -1,31 +1,28 @@
 -- What one record adds to the sums of a side: the code's numbers stand for the definitions' next sums. Assumes nothing.
 use mathlib.Core.Path.{_≡_, refl, sym, ap, subst, _∙_}
-use mathlib.Core.Bool.{Bool, true, false, not, _&&_, _||_}
-use mathlib.Core.List.{List, [], _∷_, _++_}
-use Prim.Native.Nat.{ℕ, zero, suc, _+_, _≤_, _<_}
+use mathlib.Core.Bool.{not}
+use mathlib.Core.List.{List}
+use Prim.Native.Nat.{ℕ, zero, _+_, _≤_, _<_}
 use native.Mathlib.Omega.{arith}
-use lib.Dec.{eqb, lit<, lit≤}
+use lib.Dec.{eqb, lit≤}
 use lib.ListN.{length}
-use Rattle.rounding.specs.declared.Direction.{Direction}
 use Rattle.rounding.specs.declared.Direction.the-variants.{Down, Up}
 use Rattle.rounding.specs.declared.Biased.{Biased}
 use Rattle.rounding.specs.Operations.{productOf, sumOf}
-use Rattle.decimal.specs.declared.Decimal.{Decimal}
-use Rattle.decimal.specs.Decimal.{decimalOf, workingOf}
+use Rattle.decimal.specs.Decimal.{workingOf}
 use Rattle.inputs.specs.declared.Scenario.{Scenario}
 use Rattle.inputs.specs.declared.Contaminant.{Contaminant}
 use Rattle.terms.specs.declared.pathways.Side.{Side}
-use Rattle.terms.specs.Formula.{Formula, pathwaysOf}
-use Rattle.terms.specs.Term.{inputsOf, valuesOf}
+use Rattle.formulas.specs.Formula.{Formula, pathwaysOf}
+use Rattle.formulas.specs.Term.{inputsOf, valuesOf}
 use Rattle.terms.specs.Stands.{Stands}
 use Rattle.terms.proofs.StandsLaws.{stands-own, stands-mul, stands-add}
-use Rattle.terms.proofs.Sound.{table-sound, three-pathways}
-use Rattle.guideline.specs.Column.{Accepted}
+use Rattle.formulas.proofs.Sound.{table-sound, three-pathways}
+use Rattle.guideline_rules.proofs.Accepted.{Accepted, values-of}
 use Rattle.guideline.proofs.ColumnBounds.{SideStands, sum-stands, stands-zero}
-use Rattle.guideline.proofs.WorkedOut.{any-total}
-use Rattle.guideline.proofs.Steps.{values-of}
+use Rattle.guideline_rules.proofs.WorkedOut.{any-total}
 use Rattle.sums.specs.declared.shares.SideRun.{SideRun}
-use Rattle.sums.specs.Share.{Running, next, termSum, shareOf, hasPathway}
+use Rattle.sum_rules.specs.Share.{next, termSum, shareOf, hasPathway}
 use Rattle.sums.specs.Plan.{runningOf, Shared}
 use Rattle.sums.specs.State.{SideReady}
 

@@ -2,23 +2,24 @@
 use mathlib.Core.Path.{_≡_, refl, sym, ap, _∙_}
 use mathlib.Core.Bool.{Bool, true, false, cond, _&&_}
 use mathlib.Core.List.{List}
-use Prim.Native.Nat.{ℕ, _+_, _≤_}
+use Prim.Native.Nat.{ℕ, _≤_}
 use native.Mathlib.Omega.{arith}
 use lib.Dec.{eqb, leb, lit≤}
 use lib.ListN.{length}
-use borrow.Author.Tests.{eqb-true, eqb-false, eq-eqb, ne-eqb, leb-true}
+use borrow.Author.Tests.{eqb-true, leb-true}
 use Rattle.outcome.specs.Outcome.{numberOf}
 use Rattle.inputs.specs.declared.Scenario.{Scenario}
 use Rattle.inputs.specs.declared.Contaminant.{Contaminant}
 use Rattle.inputs.specs.Rules.{scenarioFits, lacksFactor}
 use Rattle.inputs.proofs.Tests.{and-split}
 use Rattle.sums.specs.declared.shares.Plan.{Plan}
-use Rattle.sums.specs.Share.{start}
-use Rattle.sums.specs.ListCall.{firstRefusal, refused, walk, sumsOf}
+use Rattle.sum_rules.specs.Share.{start}
+use Rattle.sum_rules.specs.ListCall.{firstRefusal, refused, walk, sumsOf}
 use Rattle.sums.specs.Plan.{Begun, PlanFits}
 use Rattle.sums.specs.State.{steps, answerFrom, Room, Good, firstOf}
-use Rattle.sums.proofs.Runs.{first-passed}
-use Rattle.sums.proofs.InRange.{fair-start, walk-steps}
+use Rattle.sum_rules.proofs.Runs.{first-passed}
+use Rattle.sum_rules.proofs.InRange.{fair-start}
+use Rattle.sums.proofs.SameWalk.{walk-steps}
 use Rattle.sums.proofs.States.{none-ready}
 
 module _ {s : Scenario} {medium n : ℕ} {p : Plan} (h : Begun s medium n p) where

@@ -1,13 +1,11 @@
 -- What the plan and the states of the list call keep: the plan, the first state, a state that stays, and one that is refused.
 -- So `begin`, `first` and `step` only say which case they are in. Assumes nothing.
-use mathlib.Core.Path.{_≡_, refl, sym, ap, subst, _∙_}
+use mathlib.Core.Path.{_≡_, refl, sym, subst}
 use mathlib.Core.Bool.{true, false, _||_}
 use mathlib.Core.List.{List, _∷_}
-use mathlib.Core.Logic.{inl}
 use Prim.Native.Nat.{ℕ, _≤_, _<_}
 use native.Mathlib.Omega.{arith}
 use lib.Dec.{leb, lit≤}
-use lib.ListN.{length}
 use borrow.Author.Tests.{eq-eqb, ne-eqb}
 use Rattle.outcome.specs.declared.Refusal.{Refusal}
 use Rattle.outcome.specs.declared.Refusal.the-variants.{Field, Order, Pathway}
@@ -17,16 +15,14 @@ use Rattle.inputs.specs.declared.Contaminant.{Contaminant}
 use Rattle.inputs.specs.BuiltIn.{blank}
 use Rattle.inputs.specs.Inputs.{scenarioDecimals}
 use Rattle.inputs.specs.Valid.{validOf, allValid}
-use Rattle.inputs.specs.Rules.{oneOrTwo, scenarioFits, contaminantFits}
-use Rattle.inputs.proofs.Tests.{and-split}
-use Rattle.terms.specs.Side.{OneOrTwo}
+use Rattle.inputs.specs.Rules.{oneOrTwo, scenarioFits, contaminantFits, OneOrTwo}
+use Rattle.inputs.proofs.Tests.{and-split, one-or-two}
 use Rattle.terms.proofs.StandsLaws.{stands-most}
 use Rattle.terms.proofs.NumberValues.{zero-stands}
-use Rattle.guideline.proofs.Steps.{one-or-two}
 use Rattle.sums.specs.declared.shares.Plan.{Plan}
 use Rattle.sums.specs.declared.State.{State}
-use Rattle.sums.specs.Share.{hasPathway}
-use Rattle.sums.specs.ListCall.{refused}
+use Rattle.sum_rules.specs.Share.{hasPathway}
+use Rattle.sum_rules.specs.ListCall.{refused}
 use Rattle.sums.specs.Plan.{runningOf, noRuns}
 use Rattle.sums.specs.State.{steps, answerFrom, RunsReady, Good, Stepped, refuseOf}
 

@@ -1,10 +1,10 @@
 -- What one record makes of the running sums of both sides, and the state of the list call after it. Assumes nothing.
-use mathlib.Core.Path.{_≡_, refl, sym, ap, subst, _∙_}
-use mathlib.Core.Bool.{Bool, true, false, _||_}
-use mathlib.Core.List.{List, [], _∷_}
-use Prim.Native.Nat.{ℕ, zero, suc, _+_, _≤_, _<_}
+use mathlib.Core.Path.{_≡_, sym, ap, subst, _∙_}
+use mathlib.Core.Bool.{true, _||_}
+use mathlib.Core.List.{List, _∷_}
+use Prim.Native.Nat.{ℕ, _+_, _≤_, _<_}
 use native.Mathlib.Omega.{arith}
-use lib.Dec.{eqb, leb, lit<, lit≤}
+use lib.Dec.{lit<}
 use borrow.Author.Tests.{eq-eqb}
 use Rattle.rounding.specs.declared.Direction.the-variants.{Down, Up}
 use Rattle.rounding.specs.declared.Biased.{Biased}
@@ -13,23 +13,21 @@ use Rattle.decimal.specs.Decimal.{workingOf}
 use Rattle.outcome.specs.Outcome.{numberOf}
 use Rattle.inputs.specs.declared.Scenario.{Scenario}
 use Rattle.inputs.specs.declared.Contaminant.{Contaminant}
-use Rattle.inputs.specs.Rules.{contaminantFits}
 use Rattle.terms.specs.declared.pathways.Side.{Side}
-use Rattle.terms.specs.Side.{TotalSize, WideSide, Wide}
+use Rattle.terms.specs.Side.{TotalSize}
 use Rattle.terms.specs.Stands.{Stands, Input}
 use Rattle.terms.proofs.StandsLaws.{stands-own}
 use Rattle.terms.proofs.SameValues.{values-same}
-use Rattle.guideline.specs.Column.{Accepted}
-use Rattle.guideline.proofs.Steps.{accepted-inputs, sides}
+use Rattle.guideline_rules.proofs.Accepted.{Accepted, accepted-inputs}
+use Rattle.guideline.proofs.Steps.{sides}
 use Rattle.sums.specs.declared.shares.Plan.{Plan}
 use Rattle.sums.specs.declared.shares.Worked.{Worked}
 use Rattle.sums.specs.declared.shares.SideRun.{SideRun}
 use Rattle.sums.specs.declared.shares.Runs.{Runs}
 use Rattle.sums.specs.declared.State.{State}
-use Rattle.sums.specs.declared.SumsAnswer.{SumsAnswer}
-use Rattle.sums.specs.Share.{Running, next, hasPathway}
+use Rattle.sum_rules.specs.Share.{Running, next, hasPathway}
 use Rattle.sums.specs.Plan.{Workable, WorkedFor, runningOf, RunSize, Addable, Added}
-use Rattle.sums.specs.State.{steps, answerFrom, SideReady, RunsReady, Good, Stepped, movedOf, Advancing}
+use Rattle.sums.specs.State.{steps, answerFrom, SideReady, RunsReady, Stepped, movedOf, Advancing}
 use Rattle.sums.proofs.NextSums.{SideTerms, next-ready, next-is}
 
 pub inputs-of : {p : Plan} {r : Contaminant} → Workable p r → Accepted (p .scenario) (p .medium) r

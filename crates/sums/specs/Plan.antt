@@ -1,6 +1,6 @@
 -- What a scenario gives to every record, and what a record adds to the running sums: what the functions of `shares` promise.
 use mathlib.Core.Path.{_≡_}
-use mathlib.Core.Bool.{Bool, true, false, not, _||_}
+use mathlib.Core.Bool.{true, false, not, _||_}
 use Prim.Native.Nat.{ℕ, _≤_, _<_}
 use lib.Dec.{eqb}
 use Rattle.rounding.specs.declared.Direction.the-variants.{Down, Up}
@@ -13,19 +13,19 @@ use Rattle.inputs.specs.declared.Scenario.{Scenario}
 use Rattle.inputs.specs.declared.Contaminant.{Contaminant}
 use Rattle.inputs.specs.Inputs.{scenarioDecimals}
 use Rattle.inputs.specs.Valid.{allValid}
-use Rattle.inputs.specs.Rules.{scenarioFits, lacksFactor, contaminantFits}
+use Rattle.inputs.specs.Rules.{scenarioFits, lacksFactor, contaminantFits, OneOrTwo}
 use Rattle.terms.specs.declared.numbers.Toxicity.{Toxicity}
 use Rattle.terms.specs.declared.pathways.Side.{Side}
 use Rattle.terms.specs.declared.pathways.Terms.{Terms}
-use Rattle.terms.specs.Stands.{Stands, FactorsFor, ToxicityFor, Input}
+use Rattle.terms.specs.Stands.{FactorsFor, ToxicityFor, Input}
 use Rattle.terms.specs.Prepared.{PreparedFor}
-use Rattle.terms.specs.Side.{OneOrTwo, TermsFor, WideSide, TotalSize}
+use Rattle.terms.specs.Side.{TermsFor, TotalSize}
 use Rattle.sums.specs.declared.shares.Plan.{Plan}
 use Rattle.sums.specs.declared.shares.Worked.{Worked}
 use Rattle.sums.specs.declared.shares.SideRun.{SideRun}
 use Rattle.sums.specs.declared.shares.Runs.{Runs}
-use Rattle.sums.specs.Share.{Running}
-use Rattle.sums.specs.ListCall.{firstRefusal}
+use Rattle.sum_rules.specs.Share.{Running}
+use Rattle.sum_rules.specs.ListCall.{firstRefusal}
 
 -- ---- the plan: a scenario and a medium with the numbers worked out of them
 pub record PlanReady (p : Plan) : Type 0 where

@@ -1,6 +1,6 @@
 -- The state of the list call between two records, what it means, and what the functions over it promise.
 use mathlib.Core.Path.{_≡_}
-use mathlib.Core.Bool.{Bool, true, false, cond, _||_}
+use mathlib.Core.Bool.{true, false, cond, _||_}
 use mathlib.Core.List.{List, [], _∷_}
 use Prim.Native.Nat.{ℕ, _+_, _≤_}
 use lib.Dec.{eqb, leb}
@@ -18,11 +18,11 @@ use Rattle.sums.specs.declared.shares.Plan.{Plan}
 use Rattle.sums.specs.declared.shares.SideRun.{SideRun}
 use Rattle.sums.specs.declared.shares.Runs.{Runs}
 use Rattle.sums.specs.declared.State.{State}
-use Rattle.sums.specs.declared.SideSums.{SideSums}
-use Rattle.sums.specs.declared.SumsAnswer.{SumsAnswer}
-use Rattle.sums.specs.Verdict.{verdictOf}
-use Rattle.sums.specs.Share.{Running, next, hasPathway}
-use Rattle.sums.specs.ListCall.{refused, accepted}
+use Rattle.sum_rules.specs.declared.SideSums.{SideSums}
+use Rattle.sum_rules.specs.declared.SumsAnswer.{SumsAnswer}
+use Rattle.sum_rules.specs.Verdict.{verdictOf}
+use Rattle.sum_rules.specs.Share.{Running, next, hasPathway}
+use Rattle.sum_rules.specs.ListCall.{refused, accepted}
 use Rattle.sums.specs.Plan.{PlanReady, PlanFits, noRuns, runningOf}
 
 -- the records one by one without condition 9, which cannot hold (proofs/InRange.antt)

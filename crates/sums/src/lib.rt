@@ -1,8 +1,6 @@
 // Sums of risk and hazard over a list of contaminants, and the verdict of each side.
-pub mod presence;
 pub mod shares;
 
-use crate::presence::has_pathway;
 use crate::shares::Plan;
 use crate::shares::Runs;
 use crate::shares::SideRun;
@@ -11,40 +9,20 @@ use decimal::Decimal;
 use inputs::Contaminant;
 use inputs::contaminant_fits;
 use outcome::Refusal;
+use presence::has_pathway;
 use rounding::Biased;
 use rounding::Direction;
+use sum_rules::SideSums;
+use sum_rules::SumsAnswer;
+use sum_rules::Verdict;
 use terms::pathways::total;
 ghost use mathlib.Core.Path.{_≡_};
 ghost use mathlib.Core.List.{[]};
 ghost use Prim.Native.Nat.{_≤_};
-ghost use Rattle.sums.specs.Verdict.{verdictNumber, verdictOf};
-ghost use Rattle.sums.specs.ListCall.{refused as refusedOf};
+ghost use Rattle.sum_rules.specs.Verdict.{verdictNumber, verdictOf};
+ghost use Rattle.sum_rules.specs.ListCall.{refused as refusedOf};
 ghost use Rattle.sums.specs.Plan.{RunSize, noRuns};
 ghost use Rattle.sums.specs.State.{Good, Stepped, answerFrom, firstOf, refuseOf, movedOf, Advancing, sideSumsOf, reportedOf};
-
-// The verdict of a side. A refused call has none at all.
-pub enum Verdict {
-    Unset,
-    Within,
-    Above,
-    Undecided,
-    NoPathway,
-}
-
-// The reported sums of a side and its verdict.
-pub struct SideSums {
-    pub lower: Decimal,
-    pub upper: Decimal,
-    pub verdict: Verdict,
-}
-
-// The answer of the list call: accepted with the sums of both sides, or a refusal, its block and zeros.
-pub struct SumsAnswer {
-    pub refusal: Refusal,
-    pub block: u32,
-    pub risk: SideSums,
-    pub hazard: SideSums,
-}
 
 // The state of the list call between two records: the place of the next record and the id before it; a refusal and its
 // block, once there is one; the running sums.

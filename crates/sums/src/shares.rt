@@ -1,10 +1,10 @@
 // What one record adds to the running sums of both sides, from what a scenario in a medium gives once to every record.
-use crate::presence::either;
 use inputs::Contaminant;
 use inputs::Scenario;
 use inputs::lacks_factor;
 use inputs::scenario_fits;
 use outcome::Refusal;
+use presence::either;
 use rounding::Biased;
 use rounding::Direction;
 use terms::pathways::Terms;
@@ -16,9 +16,10 @@ ghost use lib.Dec.{eqb};
 ghost use Rattle.outcome.specs.Outcome.{numberOf};
 ghost use Rattle.inputs.specs.Inputs.{scenarioDecimals};
 ghost use Rattle.inputs.specs.Valid.{allValid};
-ghost use Rattle.terms.specs.Side.{OneOrTwo, TotalSize};
+ghost use Rattle.inputs.specs.Rules.{OneOrTwo};
+ghost use Rattle.terms.specs.Side.{TotalSize};
 ghost use Rattle.terms.specs.Stands.{Input};
-ghost use Rattle.sums.specs.ListCall.{firstRefusal};
+ghost use Rattle.sum_rules.specs.ListCall.{firstRefusal};
 ghost use Rattle.sums.specs.Plan.{Planned, Begun, Workable, WorkedFor, RunSize, Shared, Addable, Added};
 
 // What does not change from record to record: the scenario, the medium, and what is worked out of them in both

@@ -1,11 +1,11 @@
 -- The values that the code's numbers stand for: every one is zero or has nine digits, and B is what the code adds up. Assumes nothing.
 use mathlib.Core.Path.{_≡_, refl, sym, ap, subst, _∙_}
-use mathlib.Core.Bool.{Bool, true, false, cond}
-use mathlib.Core.Logic.{inl, inr}
+use mathlib.Core.Bool.{Bool, cond}
+use mathlib.Core.Logic.{inl}
 use mathlib.Core.List.{List, [], _∷_, _++_, map}
-use Prim.Native.Nat.{ℕ, zero, suc, zero-le, _+_, _≤_}
+use Prim.Native.Nat.{ℕ, zero, suc, _+_, _≤_}
 use native.Mathlib.Omega.{arith}
-use lib.Dec.{eqb, lit<, lit≤}
+use lib.Dec.{lit<, lit≤}
 use lib.ListN.{getD}
 use borrow.Author.Tests.{le-ltb}
 use Rattle.rounding.specs.declared.Direction.{Direction}
@@ -20,16 +20,17 @@ use Rattle.terms.specs.declared.numbers.Toxicity.{Toxicity}
 use Rattle.terms.specs.declared.prepared.Prepared.{Prepared}
 use Rattle.terms.specs.declared.pathways.Side.{Side}
 use Rattle.terms.specs.declared.pathways.Terms.{Terms}
-use Rattle.terms.specs.Formula.{Formula, _÷_, none, B, One, VF, PEF, table, pathwaysOf, derived}
-use Rattle.terms.specs.Term.{look, constants, presentOf, evaluated, termOf, totalOf}
-use Rattle.terms.specs.Stands.{Stands, Input, ReadyFactors, ReadyToxicity}
-use Rattle.terms.specs.Prepared.{PreparedFor, unit}
-use Rattle.terms.specs.Side.{factorDecimals, toxicityDecimals, numberInputs, numberValues, Ready, SideFor, TermsFor, OneOrTwo, noSide}
-use Rattle.terms.proofs.StandsLaws.{Value, stands-value, stands-most, stands-is, stands-div, stands-add, stands-mul3, skip-first, skip-next}
-use Rattle.terms.proofs.StandsLaws.Value.{absent}
+use Rattle.formulas.specs.Formula.{_÷_, none, B, One, VF, PEF, table, pathwaysOf, derived}
+use Rattle.formulas.specs.Term.{look, constants, presentOf, evaluated, termOf, totalOf}
+use Rattle.terms.specs.Stands.{Stands, ReadyFactors, ReadyToxicity}
+use Rattle.terms.specs.Prepared.{unit}
+use Rattle.terms.specs.Side.{factorDecimals, toxicityDecimals, numberInputs, numberValues, Ready, SideFor, TermsFor, noSide}
+use Rattle.decimal.proofs.Value.{Value, skip-first, skip-next, value-most}
+use Rattle.terms.proofs.StandsLaws.{stands-value, stands-most, stands-is, stands-div, stands-add, stands-mul3}
+use Rattle.decimal.proofs.Value.Value.{absent}
 use Rattle.terms.proofs.Constants.{unit-stands, millionth-stands, thousandth-stands, half-stands, hours-stands, days-stands}
-use Rattle.terms.proofs.Sound.{widthOf, Sound, table-sound, sound-at, none-sound}
-use Rattle.terms.proofs.Presence.{value-most, term-evaluated}
+use Rattle.formulas.proofs.Sound.{widthOf, table-sound, sound-at, none-sound}
+use Rattle.formulas.proofs.Presence.{term-evaluated}
 
 -- ---- lists of values
 data Values : List Decimal → Type 0 where
@@ -133,15 +134,6 @@ zero-stands = record { is = refl; working = inl refl; most = lit< tt; low = lit�
 pub no-term : (vs : List Decimal) (dir : Direction) → termOf vs dir none ≡ zeroOf
 unfolding termOf presentOf
 no-term vs dir = refl
-
--- ---- the terms of a medium and a class
-pub other-one : {n : ℕ} → OneOrTwo n → (n ≡ 1 → ⊥) → n ≡ 2
-other-one (inl e) h = absurd (h e)
-other-one (inr e) h = e
-
-pub other-two : {n : ℕ} → OneOrTwo n → (n ≡ 2 → ⊥) → n ≡ 1
-other-two (inl e) h = e
-other-two (inr e) h = absurd (h e)
 
 pub terms-at : {dir : Direction} {f : Factors} {t : Toxicity} {medium class m k : ℕ} {r : Terms} → medium ≡ m → class ≡ k → TermsFor dir f t m k r → TermsFor dir f t medium class r
 terms-at {dir} {f} {t} {medium} {class} {m} {k} {r} e g h = subst (λ (n : ℕ). TermsFor dir f t n class r) (sym e) (subst (λ (n : ℕ). TermsFor dir f t m n r) (sym g) h)

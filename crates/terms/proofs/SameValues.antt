@@ -1,21 +1,21 @@
 -- The numbers of a scenario and a contaminant give the values of the definitions. Assumes nothing.
-use mathlib.Core.Path.{_≡_, refl, sym, ap, subst, _∙_}
-use mathlib.Core.List.{List, [], _∷_, _++_, map}
-use Prim.Native.Nat.{ℕ, _+_, _≤_}
+use mathlib.Core.Path.{_≡_, sym, ap, subst, _∙_}
+use mathlib.Core.List.{List, _++_, map}
+use Prim.Native.Nat.{_+_}
 use Rattle.rounding.specs.declared.Direction.{Direction}
 use Rattle.decimal.specs.declared.Decimal.{Decimal}
-use Rattle.decimal.specs.Decimal.{zeroOf, decimalOf, workingOf}
+use Rattle.decimal.specs.Decimal.{zeroOf, workingOf}
 use Rattle.inputs.specs.declared.Scenario.{Scenario}
 use Rattle.inputs.specs.declared.Contaminant.{Contaminant}
 use Rattle.inputs.specs.Inputs.{scenarioDecimals, contaminantDecimals}
 use Rattle.terms.specs.declared.numbers.Factors.{Factors}
 use Rattle.terms.specs.declared.numbers.Toxicity.{Toxicity}
 use Rattle.terms.specs.declared.prepared.Prepared.{Prepared}
-use Rattle.terms.specs.Formula.{Formula, derived}
-use Rattle.terms.specs.Term.{constants, totalOf, inputsOf, valuesOf}
-use Rattle.terms.specs.Stands.{Stands, FactorsFor, ToxicityFor, ReadyFactors, ReadyToxicity}
+use Rattle.formulas.specs.Formula.{Formula, derived}
+use Rattle.formulas.specs.Term.{constants, totalOf, inputsOf, valuesOf}
+use Rattle.terms.specs.Stands.{FactorsFor, ToxicityFor, ReadyFactors, ReadyToxicity}
 use Rattle.terms.specs.Prepared.{PreparedFor}
-use Rattle.terms.specs.Side.{factorDecimals, toxicityDecimals, numberInputs, numberValues, Ready}
+use Rattle.terms.specs.Side.{factorDecimals, toxicityDecimals, numberValues, Ready}
 use Rattle.terms.proofs.StandsLaws.{stands-own}
 
 pub factors-ready : {s : Scenario} {f : Factors} → FactorsFor s f → ReadyFactors f

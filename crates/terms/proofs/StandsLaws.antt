@@ -1,31 +1,28 @@
 -- Numbers that stand for decimals: multiplied, divided and added they stand for the rounded results. Assumes nothing.
 use mathlib.Core.Path.{_≡_, refl, sym, ap, subst, _∙_}
-use mathlib.Core.Bool.{Bool, true, false, cond}
-use mathlib.Core.Logic.{_⊎_, inl, inr}
-use Prim.Native.Nat.{ℕ, _+_, _-_, _≤_, _<_}
-use native.Mathlib.Nat.{mul-pos}
+use mathlib.Core.Bool.{true}
+use mathlib.Core.Logic.{inl, inr}
+use Prim.Native.Nat.{ℕ, _+_, _-_, _≤_}
 use native.Mathlib.Omega.{arith}
-use lib.Dec.{eqb, lit≤}
-use borrow.Author.Tests.{eqb-true, eqb-false, eq-eqb, ne-eqb}
 use Rattle.rounding.specs.declared.Direction.{Direction}
 use Rattle.rounding.specs.declared.Biased.{Biased}
-use Rattle.rounding.specs.Biased.{Nine, Working, InRange}
+use Rattle.rounding.specs.Biased.{Working}
 use Rattle.rounding.specs.Operations.{productOf, quotientOf, sumOf}
 use Rattle.rounding.specs.WorkingForm.{nineOf}
 use Rattle.rounding.proofs.ExactResults.{product-rounds, quotient-zero, quotient-rounds, sum-rounds}
 use Rattle.rounding.proofs.Exponents.{product-result, quotient-result, sum-result}
 use Rattle.rounding.proofs.NineDigits.{nine-result}
 use Rattle.decimal.specs.declared.Decimal.{Decimal}
-use Rattle.decimal.specs.Exponent.{raised}
-use Rattle.decimal.specs.Decimal.{zeroOf, biasedOf, decimalOf, mulOf, divOf, addOf, workingOf}
+use Rattle.decimal.specs.Decimal.{biasedOf, decimalOf, mulOf, divOf, addOf, workingOf}
 use Rattle.decimal.proofs.OperandFacts.{Operand}
-use Rattle.decimal.proofs.Laws.{decimal-zero, decimal-nine, working-is, nine-working}
+use Rattle.decimal.proofs.Laws.{decimal-zero, working-is, nine-working}
 use Rattle.decimal.proofs.CoreOperations.{mul-core, div-core, add-core}
-use Rattle.decimal.proofs.Approximation.{Sized, sized-of, add-zero-left, add-zero-right, add-zeros}
+use Rattle.decimal.proofs.Approximation.{Sized, sized-of}
 use Rattle.inputs.specs.Valid.{validOf}
-use Rattle.inputs.proofs.Tests.{Small, valid-small}
-use Rattle.terms.specs.Stands.{Stands, Input}
+use Rattle.inputs.proofs.Tests.{valid-small}
+use Rattle.terms.specs.Stands.{Stands}
 use Rattle.terms.specs.Prepared.{Middle}
+use Rattle.decimal.proofs.Value.{Value, absent, known}
 
 -- ---- what a number that stands for a decimal can be used for
 pub stands-operand : {w : ℕ} {r : Biased} {d : Decimal} → w ≤ 990 → Stands w r d → Operand r
@@ -100,27 +97,12 @@ module _ (dir : Direction) {v w : ℕ} {p q r : Biased} {a b : Decimal} (s : Sta
 pub stands-mul3 : (dir : Direction) {u v w : ℕ} {p q n r : Biased} {a b c : Decimal} → Stands u p a → Stands v q b → Stands w n c → u + v + w ≤ 970 → r ≡ productOf dir (productOf dir p q) n → Stands (u + v + w + 2) r (mulOf (mulOf a b dir) c dir)
 stands-mul3 dir {u} {v} {w} s t z h e = stands-most (omega arith) (stands-mul dir (stands-mul dir s t (omega arith) refl) z (omega arith) e)
 
--- ---- zero, or nine digits
-pub data Value (w : ℕ) (d : Decimal) : Type 0 where
-  absent : d ≡ zeroOf → Value w d
-  known : Sized w d → Value w d
-
 pub stands-value : {w : ℕ} {r : Biased} {d : Decimal} → w ≤ 990 → Stands w r d → Value w d
 stands-value {w} {r} {d} h s = cases (s .working)
   where
     cases : Working r → Value w d
     cases (inl z) = absent (sym (s .is) ∙ decimal-zero r z)
     cases (inr n) = known (subst (Sized w) (s .is) (sized-of w r n (s .low) (s .high) h))
-
--- ---- a sum that skips zeros
-pub skip-first : (dir : Direction) {w : ℕ} {d : Decimal} → Value w d → cond (eqb (d .m) 0) zeroOf (addOf zeroOf d dir) ≡ d
-skip-first dir {w} {d} (absent e) = rw e
-skip-first dir {w} {d} (known s) = rw (ne-eqb (d .m) 0 (omega (arith, s .nine .least)), add-zero-left dir s)
-
-pub skip-next : (dir : Direction) {v w : ℕ} {a d : Decimal} → Value v a → Value w d → cond (eqb (d .m) 0) a (addOf a d dir) ≡ addOf a d dir
-skip-next dir {v} {w} {a} {d} (absent e) (absent f) = rw (e, f, add-zeros dir)
-skip-next dir {v} {w} {a} {d} (known s) (absent f) = rw (f, add-zero-right dir s)
-skip-next dir {v} {w} {a} {d} f (known s) = rw (ne-eqb (d .m) 0 (omega (arith, s .nine .least)))
 
 -- ---- the number of a valid decimal
 pub number-stands : (d : Decimal) (r : Biased) → validOf d ≡ true → r ≡ nineOf (biasedOf d) → Stands 28 r (workingOf d)

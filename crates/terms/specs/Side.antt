@@ -1,6 +1,4 @@
 -- What the code's terms of a side stand for: the terms of the table's formulas over the decimals that its numbers stand for.
-use mathlib.Core.Path.{_≡_}
-use mathlib.Core.Logic.{_⊎_}
 use mathlib.Core.List.{List, [], _∷_, _++_, map}
 use Prim.Native.Nat.{ℕ, _≤_, _<_}
 use lib.ListN.{getD}
@@ -13,9 +11,9 @@ use Rattle.terms.specs.declared.numbers.Toxicity.{Toxicity}
 use Rattle.terms.specs.declared.prepared.Prepared.{Prepared}
 use Rattle.terms.specs.declared.pathways.Side.{Side}
 use Rattle.terms.specs.declared.pathways.Terms.{Terms}
-use Rattle.terms.specs.Formula.{Formula, B, none, pathwaysOf, derived}
-use Rattle.terms.specs.Term.{look, constants, totalOf, termOf}
-use Rattle.terms.specs.Stands.{Stands, ReadyFactors, ReadyToxicity}
+use Rattle.formulas.specs.Formula.{Formula, B, none, pathwaysOf, derived}
+use Rattle.formulas.specs.Term.{look, constants, totalOf, termOf}
+use Rattle.terms.specs.Stands.{Stands, ReadyToxicity}
 use Rattle.terms.specs.Prepared.{PreparedFor}
 
 abbrev pub factorDecimals : Factors → List Decimal
@@ -51,10 +49,6 @@ pub record SideFor (dir : Direction) (f : Factors) (t : Toxicity) (fs : List For
 pub record TermsFor (dir : Direction) (f : Factors) (t : Toxicity) (medium class : ℕ) (r : Terms) : Type 0 where
   pub risk : SideFor dir f t (pathwaysOf medium class 0) (r .risk)
   pub hazard : SideFor dir f t (pathwaysOf medium class 1) (r .hazard)
-
--- a medium or a class
-abbrev pub OneOrTwo : ℕ → Type 0
-OneOrTwo n = (n ≡ 1) ⊎ (n ≡ 2)
 
 abbrev pub noSide : Side
 noSide = record { first = record { m = 0; x = 2992 }; second = record { m = 0; x = 2992 }; third = record { m = 0; x = 2992 } }

@@ -14,8 +14,9 @@ use rounding::Biased;
 use rounding::Direction;
 ghost use mathlib.Core.Path.{_≡_};
 ghost use Rattle.rounding.specs.Operations.{sumOf};
-ghost use Rattle.terms.specs.Formula.{pathwaysOf};
-ghost use Rattle.terms.specs.Side.{Ready, Air, OneOrTwo, noSide, SideFor, TermsFor, WideSide, TotalSize};
+ghost use Rattle.formulas.specs.Formula.{pathwaysOf};
+ghost use Rattle.terms.specs.Side.{Ready, Air, noSide, SideFor, TermsFor, WideSide, TotalSize};
+ghost use Rattle.inputs.specs.Rules.{OneOrTwo};
 
 // The terms of the three pathways of a side.
 pub struct Side {

@@ -10,14 +10,9 @@ use Rattle.outcome.specs.declared.Refusal.the-variants.{Accepted, Field, Factor
 use Rattle.words.specs.Bytes.{over}
 use Rattle.inputs.specs.declared.Contaminant.{Contaminant}
 use Rattle.inputs.specs.Rules.{lacksFactor}
-use Rattle.blocks.specs.declared.Header.{Header}
-use Rattle.writers.specs.Blocks.{headerBlock, contaminantBlock}
-use Rattle.writers.specs.Answers.{headerFit, contaminantFit, headerAnswer, contaminantAnswer, leftBy, headerLeft, contaminantLeft}
-use Rattle.outcome.specs.Outcome.{numberOf}
-
--- what has another number is not accepted
-pub refused : (a : Refusal) → (numberOf a ≡ 0 → ⊥) → a ≡ Accepted → ⊥
-refused a n e = n (ap numberOf e)
+use Rattle.block_rules.specs.declared.Header.{Header}
+use Rattle.block_rules.specs.Layouts.{headerBlock, contaminantBlock}
+use Rattle.block_rules.specs.Answers.{headerFit, contaminantFit, headerAnswer, contaminantAnswer, leftBy, headerLeft, contaminantLeft}
 
 module _ (out : List ℕ) (h : Header) where
   -- the answer, and what is left by it

@@ -3,23 +3,14 @@ use mathlib.Core.Path.{_≡_, refl, sym, ap, _∙_}
 use mathlib.Core.List.{List, [], _∷_, _++_, append-assoc}
 use Prim.Native.Nat.{ℕ, _+_, _*_, _-_, _<_, _%_}
 use native.Mathlib.Omega.{arith}
-use lib.ListN.{length, drop, length-append}
+use lib.ListN.{length, drop}
 use Rattle.words.specs.Bytes.{le4, placed, over}
 use Rattle.words.proofs.Words.{le4-length, wordSum-front}
 use Rattle.words.proofs.Written.{Wrote, wrote-next}
 use Rattle.decimal.specs.declared.Decimal.{Decimal}
 use Rattle.fields.specs.Fields.{field, fieldBytes}
 use Rattle.fields.proofs.ReadBack.{fieldBytes-length}
-use Rattle.writers.specs.Blocks.{lastWord, firstWords, bodyOf, blockOf}
-
--- ---- lengths
-pub firstWords-length : (kind place a b : ℕ) → length (firstWords kind place a b) ≡ 16
-unfolding firstWords
-firstWords-length kind place a b = simp (length-append, le4-length)
-
-pub body-length : (kind place a b : ℕ) (ds : List Decimal) (rest : List ℕ) → length (bodyOf kind place a b ds rest) ≡ 16 + 8 * length ds + length rest
-unfolding bodyOf
-body-length kind place a b ds rest = simp (length-append, firstWords-length, fieldBytes-length)
+use Rattle.block_rules.specs.Layouts.{lastWord, bodyOf, blockOf}
 
 -- ---- the last word
 -- what is added to n modulo 4,294,967,296 gives zero

@@ -1,15 +1,15 @@
 // Writing blocks into the first 512 bytes of what is lent: header, contaminant, result, summary.
-use blocks::Header;
-use guideline::SideGuidelines;
+use block_rules::Header;
+use guideline_rules::SideGuidelines;
 use inputs::Contaminant;
 use outcome::Refusal;
-use sums::SideSums;
+use sum_rules::SideSums;
 ghost use mathlib.Core.Path.{_≡_};
 ghost use Prim.Native.Nat.{_≤_};
 ghost use lib.ListN.{length};
 ghost use Rattle.words.specs.Bytes.{placed, le4, over};
-ghost use Rattle.writers.specs.Blocks.{lastWord, firstWords, headerBlock, contaminantBlock, resultBlock, summaryBlock};
-ghost use Rattle.writers.specs.Answers.{headerFit, contaminantFit, headerAnswer, headerLeft, contaminantAnswer, contaminantLeft};
+ghost use Rattle.block_rules.specs.Layouts.{lastWord, firstWords, headerBlock, contaminantBlock, resultBlock, summaryBlock};
+ghost use Rattle.block_rules.specs.Answers.{headerFit, contaminantFit, headerAnswer, headerLeft, contaminantAnswer, contaminantLeft};
 
 // Writes the last word, so that all 128 words add to zero.
 fn put_last_word(out: &mut [u8])

@@ -1,5 +1,5 @@
 -- `blocks::contaminant_unused` meets its contract. Assumes nothing.
-use Rattle.blocks.specs.Blocks.{contaminantUnused}
+use Rattle.block_rules.specs.Reading.{contaminantUnused}
 use borrow.Author.Needs.{needs}
 use Rattle.blocks.proofs.contaminant_unused.Statement.{statement}
 use Rattle.blocks.proofs.contaminant_unused.Tie as tie

@@ -3,8 +3,8 @@ use mathlib.Core.Path.{_≡_, sym, _∙_}
 use mathlib.Core.Bool.{true, false}
 use native.Mathlib.Omega.{arith}
 use borrow.Author.Tests.{not-true, not-false}
-use Rattle.blocks.specs.Rules.{inFile, countOk}
-use Rattle.blocks.proofs.Rules.{in-file}
+use Rattle.block_rules.specs.Rules.{inFile, countOk}
+use Rattle.block_rules.proofs.Rules.{in-file}
 use borrow.Author.Needs.{needs}
 use Rattle.blocks.proofs.count_ok.Statement.{statement}
 use Rattle.blocks.proofs.count_ok.Tie as tie

@@ -1,7 +1,6 @@
 -- `blocks::get_contaminant` meets its contract. Assumes nothing.
 use native.Mathlib.Omega.{arith}
-use Rattle.blocks.specs.Blocks.{contaminantAt}
-use borrow.Author.Needs.{needs}
+use Rattle.block_rules.specs.Reading.{contaminantAt}
 use Rattle.blocks.proofs.get_contaminant.Statement.{statement}
 use Rattle.blocks.proofs.get_contaminant.Tie as tie
 

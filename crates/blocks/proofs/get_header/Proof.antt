@@ -1,7 +1,6 @@
 -- `blocks::get_header` meets its contract. Assumes nothing.
 use native.Mathlib.Omega.{arith}
-use Rattle.blocks.specs.Blocks.{headerAt}
-use borrow.Author.Needs.{needs}
+use Rattle.block_rules.specs.Reading.{headerAt}
 use Rattle.blocks.proofs.get_header.Statement.{statement}
 use Rattle.blocks.proofs.get_header.Tie as tie
 

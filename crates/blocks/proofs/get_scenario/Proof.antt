@@ -1,7 +1,6 @@
 -- `blocks::get_scenario` meets its contract. Assumes nothing.
 use native.Mathlib.Omega.{arith}
-use Rattle.blocks.specs.Blocks.{scenarioAt}
-use borrow.Author.Needs.{needs}
+use Rattle.block_rules.specs.Reading.{scenarioAt}
 use Rattle.blocks.proofs.get_scenario.Statement.{statement}
 use Rattle.blocks.proofs.get_scenario.Tie as tie
 

@@ -1,5 +1,5 @@
 -- `blocks::header_unused` meets its contract. Assumes nothing.
-use Rattle.blocks.specs.Blocks.{headerUnused}
+use Rattle.block_rules.specs.Reading.{headerUnused}
 use borrow.Author.Needs.{needs}
 use Rattle.blocks.proofs.header_unused.Statement.{statement}
 use Rattle.blocks.proofs.header_unused.Tie as tie

@@ -1,5 +1,5 @@
 -- `blocks::in_file` meets its contract. Assumes nothing.
-use Rattle.blocks.specs.Rules.{inFile}
+use Rattle.block_rules.specs.Rules.{inFile}
 use borrow.Author.Needs.{needs}
 use Rattle.blocks.proofs.in_file.Statement.{statement}
 use Rattle.blocks.proofs.in_file.Tie as tie

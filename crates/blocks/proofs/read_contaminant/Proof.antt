@@ -6,7 +6,7 @@ use lib.ListN.{length}
 use lib.Dec.{eqb}
 use borrow.Author.Tests.{eq-eqb, ne-eqb, le-leb, lt-leb, not-true, not-false}
 use Rattle.words.specs.Words.{partOf}
-use Rattle.blocks.specs.Blocks.{soundAt}
+use Rattle.block_rules.specs.Reading.{soundAt}
 use Rattle.blocks.proofs.Parts.{block-fits}
 use Rattle.blocks.proofs.Answers.{Passed, sound-here, kind-here, contaminant-here, contaminant-fields-here, contaminant-short, contaminant-check, contaminant-kind, contaminant-field, contaminant-order, contaminant-found}
 use borrow.Author.Needs.{needs}

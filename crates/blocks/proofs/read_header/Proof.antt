@@ -6,7 +6,7 @@ use lib.ListN.{length}
 use lib.Dec.{eqb}
 use borrow.Author.Tests.{eq-eqb, ne-eqb, not-true, not-false}
 use Rattle.words.specs.Words.{partOf}
-use Rattle.blocks.specs.Blocks.{soundAt}
+use Rattle.block_rules.specs.Reading.{soundAt}
 use Rattle.blocks.proofs.Parts.{block-fits}
 use Rattle.blocks.proofs.Answers.{Passed, sound-here, kind-here, header-here, header-fields-here, header-short, header-check, header-kind, header-field, header-count, header-factor, header-found}
 use borrow.Author.Needs.{needs}

@@ -1,5 +1,5 @@
 -- `blocks::sound` meets its contract. Assumes nothing.
-use Rattle.blocks.specs.Blocks.{soundAt}
+use Rattle.block_rules.specs.Reading.{soundAt}
 use borrow.Author.Needs.{needs}
 use Rattle.blocks.proofs.sound.Statement.{statement}
 use Rattle.blocks.proofs.sound.Tie as tie

@@ -1,7 +1,7 @@
 -- `guideline::guideline` meets its contract. Assumes nothing.
 use mathlib.Core.Path.{sym, _∙_}
-use Rattle.guideline.specs.Guideline.{guidelineOf}
-use Rattle.guideline.proofs.Steps.{accepted-inputs}
+use Rattle.guideline_rules.specs.Guideline.{guidelineOf}
+use Rattle.guideline_rules.proofs.Accepted.{accepted-inputs}
 use borrow.Author.Needs.{needs}
 use Rattle.guideline.proofs.guideline.Statement.{statement}
 use Rattle.guideline.proofs.guideline.Tie as tie

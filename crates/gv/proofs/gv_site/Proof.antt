@@ -1,6 +1,6 @@
 -- `gv::gv_site` meets its contract. Assumes nothing.
 use mathlib.Core.Path.{ap, _∙_}
-use Rattle.gv.specs.Exports.{packed}
+use Rattle.gv_rules.specs.Exports.{packed}
 use borrow.Author.Needs.{needs}
 use Rattle.gv.proofs.gv_site.Statement.{statement}
 use Rattle.gv.proofs.gv_site.Tie as tie

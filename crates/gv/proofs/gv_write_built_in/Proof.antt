@@ -5,9 +5,9 @@ use lib.Dec.{eqb}
 use Rattle.outcome.specs.Outcome.{numberOf}
 use Rattle.inputs.specs.declared.BuiltIn.{BuiltIn}
 use Rattle.inputs.specs.BuiltIn.{builtInOf}
-use Rattle.writers.specs.Blocks.{headerBlock}
-use Rattle.writers.specs.Answers.{headerAnswer, headerLeft, leftBy}
-use Rattle.gv.specs.Exports.{builtInHeader, builtInSent, builtInPut}
+use Rattle.block_rules.specs.Layouts.{headerBlock}
+use Rattle.block_rules.specs.Answers.{headerAnswer, headerLeft, leftBy}
+use Rattle.gv_rules.specs.Exports.{builtInSent, builtInPut}
 use borrow.Author.Needs.{needs}
 use Rattle.gv.proofs.gv_write_built_in.Statement.{statement}
 use Rattle.gv.proofs.gv_write_built_in.Tie as tie

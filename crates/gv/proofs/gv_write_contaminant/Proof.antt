@@ -1,16 +1,12 @@
 -- `gv::gv_write_contaminant` meets its contract. Assumes nothing.
-use mathlib.Core.Path.{_≡_, sym, ap, ap₂, _∙_}
-use mathlib.Core.Bool.{_&&_}
-use Prim.Native.Nat.{_≤_}
+use mathlib.Core.Path.{sym, ap, _∙_}
 use native.Mathlib.Omega.{arith}
-use lib.Dec.{eqb}
-use lib.ListN.{length}
 use borrow.Author.Tests.{not-true, not-false}
 use Rattle.outcome.specs.Outcome.{numberOf}
-use Rattle.blocks.specs.Blocks.{contaminantAt}
-use Rattle.writers.specs.Blocks.{contaminantBlock}
-use Rattle.writers.specs.Answers.{contaminantAnswer, contaminantLeft, leftBy}
-use Rattle.gv.specs.Exports.{contaminantForm, contaminantSent, contaminantPut}
+use Rattle.block_rules.specs.Reading.{contaminantAt}
+use Rattle.block_rules.specs.Layouts.{contaminantBlock}
+use Rattle.block_rules.specs.Answers.{contaminantAnswer, contaminantLeft, leftBy}
+use Rattle.gv_rules.specs.Exports.{contaminantForm, contaminantSent, contaminantPut}
 use Rattle.gv.proofs.Sent.{no-room, no-form, own-answer, wrong-length, right-form}
 use borrow.Author.Needs.{needs}
 use Rattle.gv.proofs.gv_write_contaminant.Statement.{statement}

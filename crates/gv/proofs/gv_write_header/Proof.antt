@@ -1,16 +1,12 @@
 -- `gv::gv_write_header` meets its contract. Assumes nothing.
-use mathlib.Core.Path.{_≡_, sym, ap, ap₂, _∙_}
-use mathlib.Core.Bool.{_&&_}
-use Prim.Native.Nat.{_≤_}
+use mathlib.Core.Path.{sym, ap, _∙_}
 use native.Mathlib.Omega.{arith}
-use lib.Dec.{eqb}
-use lib.ListN.{length}
 use borrow.Author.Tests.{not-true, not-false}
 use Rattle.outcome.specs.Outcome.{numberOf}
-use Rattle.blocks.specs.Blocks.{headerAt}
-use Rattle.writers.specs.Blocks.{headerBlock}
-use Rattle.writers.specs.Answers.{headerAnswer, headerLeft, leftBy}
-use Rattle.gv.specs.Exports.{headerForm, headerSent, headerPut}
+use Rattle.block_rules.specs.Reading.{headerAt}
+use Rattle.block_rules.specs.Layouts.{headerBlock}
+use Rattle.block_rules.specs.Answers.{headerAnswer, headerLeft, leftBy}
+use Rattle.gv_rules.specs.Exports.{headerForm, headerSent, headerPut}
 use Rattle.gv.proofs.Sent.{no-room, no-form, own-answer, wrong-length, right-form}
 use borrow.Author.Needs.{needs}
 use Rattle.gv.proofs.gv_write_header.Statement.{statement}

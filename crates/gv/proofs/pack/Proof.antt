@@ -1,7 +1,5 @@
 -- `gv::pack` meets its contract. Assumes nothing.
-use mathlib.Core.Path.{_≡_, ap, _∙_}
-use native.Mathlib.Omega.{arith}
-use Rattle.gv.specs.Exports.{packed}
+use Rattle.gv_rules.specs.Exports.{packed}
 use borrow.Author.Needs.{needs}
 use Rattle.gv.proofs.pack.Statement.{statement}
 use Rattle.gv.proofs.pack.Tie as tie

@@ -2,7 +2,7 @@
 use mathlib.Core.Path.{sym, ap, _∙_}
 use native.Mathlib.Omega.{arith}
 use lib.Seq.{length-take-le}
-use Rattle.listing.specs.Listing.{listingOf}
+use Rattle.listing_rules.specs.Listing.{listingOf}
 use Rattle.listing.proofs.Listings.{whole}
 use borrow.Author.Needs.{needs}
 use Rattle.gvlist.proofs.list_text.Statement.{statement}

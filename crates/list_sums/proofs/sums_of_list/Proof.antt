@@ -56,8 +56,8 @@ use Rattle.inputs.specs.declared.Scenario.{Scenario}
 use Rattle.inputs.specs.declared.Contaminant.{Contaminant}
 use Rattle.sums.specs.declared.shares.Plan.{Plan}
 use Rattle.sums.specs.declared.State.{State}
-use Rattle.sums.specs.declared.SumsAnswer.{SumsAnswer}
-use Rattle.sums.specs.ListCall.{sumsOf}
+use Rattle.sum_rules.specs.declared.SumsAnswer.{SumsAnswer}
+use Rattle.sum_rules.specs.ListCall.{sumsOf}
 use Rattle.sums.specs.Plan.{Begun}
 use Rattle.sums.specs.State.{Good, Room, Stepped, answerFrom, firstOf}
 use Rattle.sums.proofs.Started.{started-good, started-room, started-answer}
@@ -69,8 +69,8 @@ use Rattle.sums.proofs.shares.Plan as P
 use Rattle.sums.proofs.shares.Plan.Laws as P′
 use Rattle.sums.proofs.State as S
 use Rattle.sums.proofs.State.Laws as S′
-use Rattle.sums.proofs.SumsAnswer as R
-use Rattle.sums.proofs.SumsAnswer.Laws as R′
+use Rattle.sum_rules.proofs.SumsAnswer as R
+use Rattle.sum_rules.proofs.SumsAnswer.Laws as R′
 use Rattle.sums.proofs.shares.begin as begin
 use Rattle.sums.proofs.shares.begin.Symbol as begin-def
 use Rattle.sums.proofs.shares.begin.Symbol.{name as #sums·shares·begin}

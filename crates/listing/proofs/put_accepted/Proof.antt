@@ -1,9 +1,10 @@
 -- `listing::put_accepted` meets its contract. Assumes nothing.
 use mathlib.Core.Path.{refl}
 use native.Mathlib.Omega.{arith}
-use Rattle.listing.specs.Lines.{sumLine}
+use Rattle.listing_rules.specs.Lines.{sumLine}
 use Rattle.listing.specs.Asked.{blockLinesTo}
-use Rattle.listing.proofs.LineParts.{blocks-most, sum-most}
+use Rattle.listing.proofs.BlockLines.{blocks-most}
+use Rattle.listing_rules.proofs.Lengths.{sum-most}
 use Rattle.listing.proofs.Progress.{wrote-of, wrote-then, wrote-all}
 use borrow.Author.Needs.{needs}
 use Rattle.listing.proofs.put_accepted.Statement.{statement}

@@ -4,15 +4,15 @@ use mathlib.Core.List.{List}
 use Prim.Native.Nat.{ℕ, _/_}
 use native.Mathlib.Omega.{arith}
 use lib.ListN.{length}
-use Rattle.site.specs.Site.{blockAt}
-use Rattle.site.specs.Results.{headerOf}
-use Rattle.site.specs.Check.{Opened}
-use Rattle.site.proofs.Answers.{right-length, header-is, site-long, count-most}
-use Rattle.blocks.specs.declared.Header.{Header}
-use Rattle.blocks.specs.declared.HeaderRead.{HeaderRead}
-use Rattle.blocks.specs.declared.HeaderRead.the-variants as H
-use Rattle.blocks.specs.Blocks.{headerRead}
-use Rattle.listing.specs.Lines.{refusalLine}
+use Rattle.site_rules.specs.Site.{blockAt}
+use Rattle.site_rules.specs.Results.{headerOf}
+use Rattle.site_rules.specs.Passed.{Opened}
+use Rattle.site_rules.proofs.Opened.{right-length, header-is, site-long, count-most}
+use Rattle.block_rules.specs.declared.Header.{Header}
+use Rattle.block_rules.specs.declared.HeaderRead.{HeaderRead}
+use Rattle.block_rules.specs.declared.HeaderRead.the-variants as H
+use Rattle.block_rules.specs.Reading.{headerRead}
+use Rattle.listing_rules.specs.Lines.{refusalLine}
 use Rattle.listing.proofs.Progress.{wrote-first, wrote-of, wrote-all}
 use Rattle.listing.proofs.Listings.{accepted-parts, text-refused, text-accepted, not-refused}
 use borrow.Author.Needs.{needs}

@@ -6,7 +6,7 @@ use lib.ListN.{length, take, drop, length-drop}
 use lib.Seq.{length-take-le}
 use Rattle.words.proofs.Written.{Wrote}
 use Rattle.listing.specs.Asked.{blockLinesTo}
-use Rattle.listing.proofs.LineParts.{lent-block}
+use Rattle.listing.proofs.BlockLines.{lent-block}
 use Rattle.listing.proofs.Progress.{none-yet, at-most, one-place, wrote-long, wrote-all}
 use borrow.Author.Needs.{needs}
 use Rattle.listing.proofs.put_places.Statement.{statement}

@@ -1,12 +1,11 @@
 -- `site::check_blocks` meets its contract. Assumes nothing.
-use mathlib.Core.Path.{_≡_, refl, sym, ap, _∙_}
-use mathlib.Core.Bool.{_||_}
-use Prim.Native.Nat.{ℕ, _+_, _-_, _≤_, _<_}
+use mathlib.Core.Path.{_≡_, sym, ap, _∙_}
+use Prim.Native.Nat.{ℕ, _+_, _-_, _≤_}
 use native.Mathlib.Omega.{arith}
 use borrow.Author.Tests.{not-true, not-false}
-use Rattle.site.specs.Site.{blockAt}
+use Rattle.site_rules.specs.Site.{blockAt}
 use Rattle.site.specs.Check.{checkBlocks}
-use Rattle.site.proofs.Walks.{found-record}
+use Rattle.site_rules.proofs.Opened.{found-record}
 use Rattle.site.proofs.Turns.{turn-refused, turn-pathway, turn-next, check-none}
 use borrow.Author.Needs.{needs}
 use Rattle.site.proofs.check_blocks.Statement.{statement}

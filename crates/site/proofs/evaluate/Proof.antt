@@ -1,12 +1,12 @@
 -- `site::evaluate` meets its contract. Assumes nothing.
-use mathlib.Core.Path.{_≡_, refl, sym, ap, _∙_}
+use mathlib.Core.Path.{sym, _∙_}
 use Prim.Native.Nat.{_/_}
 use native.Mathlib.Omega.{arith}
 use lib.ListN.{length}
 use borrow.Author.Tests.{not-true, not-false}
-use Rattle.blocks.proofs.Found.{header-refused}
-use Rattle.site.specs.Site.{blockAt}
-use Rattle.site.proofs.Answers.{right-length, answer-length, answer-header, left-refused}
+use Rattle.block_rules.proofs.Found.{header-refused}
+use Rattle.site_rules.specs.Site.{blockAt}
+use Rattle.site_rules.proofs.Opened.{right-length, answer-length, answer-header, left-refused}
 use borrow.Author.Needs.{needs}
 use Rattle.site.proofs.evaluate.Statement.{statement}
 use Rattle.site.proofs.evaluate.Tie as tie

@@ -1,14 +1,12 @@
 -- `site::evaluate_blocks` meets its contract. Assumes nothing.
-use mathlib.Core.Path.{_≡_, refl, sym, ap, subst, _∙_}
+use mathlib.Core.Path.{sym, ap, _∙_}
 use native.Mathlib.Omega.{arith}
-use lib.Dec.{eqb}
-use lib.ListN.{length, length-append}
-use borrow.Author.Tests.{eqb-true, eqb-false, not-true, not-false}
-use Rattle.outcome.specs.Outcome.{numberOf}
-use Rattle.words.proofs.Written.{over-length}
-use Rattle.sums.specs.ListCall.{refused}
+use lib.ListN.{length}
+use borrow.Author.Tests.{not-true, not-false}
+use Rattle.sum_rules.specs.ListCall.{refused}
 use Rattle.site.specs.declared.Checked.{Checked}
-use Rattle.site.proofs.Answers.{checking, count-most, count-some, site-long, answer-refused, answer-room, answer-sums, left-refused, left-accepted}
+use Rattle.site.proofs.Answers.{checking, answer-refused, answer-room}
+use Rattle.site_rules.proofs.Opened.{site-long, left-refused}
 use Rattle.site.proofs.Planned.{found-nonzero, found-zero, writing, planned-sums, left-length}
 use borrow.Author.Needs.{needs}
 use Rattle.site.proofs.evaluate_blocks.Statement.{statement}

@@ -1,16 +1,16 @@
 -- `site::put_block` meets its contract. Assumes nothing.
-use mathlib.Core.Path.{_≡_, sym, ap, ap₂, subst, _∙_}
+use mathlib.Core.Path.{_≡_, ap, ap₂, subst, _∙_}
 use mathlib.Core.List.{List}
 use Prim.Native.Nat.{ℕ, _+_, _*_, _-_}
 use native.Mathlib.Omega.{arith}
 use lib.ListN.{length, take, drop, length-drop}
 use lib.Seq.{length-take-le}
 use Rattle.inputs.specs.declared.Contaminant.{Contaminant}
-use Rattle.guideline.specs.declared.SideGuidelines.{SideGuidelines}
+use Rattle.guideline_rules.specs.declared.SideGuidelines.{SideGuidelines}
 use Rattle.words.specs.Bytes.{over}
 use Rattle.words.proofs.Written.{over-length}
-use Rattle.writers.specs.Blocks.{resultBlock}
-use Rattle.writers.proofs.ResultsBack.{result-length}
+use Rattle.block_rules.specs.Layouts.{resultBlock}
+use Rattle.block_rules.proofs.ResultsBack.{result-length}
 use Rattle.site.specs.Check.{OneMore}
 use Rattle.site.proofs.OneBlock.{read-is, read-ok, block-is, block-wide, risk-printable, hazard-printable, guideline-is, shares-fit, one-more}
 use borrow.Author.Needs.{needs}

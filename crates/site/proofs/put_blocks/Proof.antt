@@ -1,21 +1,15 @@
 -- `site::put_blocks` meets its contract. Assumes nothing.
-use mathlib.Core.Path.{_≡_, refl, sym, ap, _∙_}
-use mathlib.Core.List.{List, [], _++_}
-use Prim.Native.Nat.{ℕ, _+_, _*_, _-_, _≤_, _<_}
+use mathlib.Core.Path.{_≡_, refl, ap, _∙_}
+use mathlib.Core.List.{[], _++_}
+use Prim.Native.Nat.{ℕ, _+_, _*_, _-_}
 use native.Mathlib.Omega.{arith}
 use lib.ListN.{length, take, drop, length-append, length-drop}
 use lib.Seq.{length-take-le}
 use Rattle.words.specs.Bytes.{over}
 use Rattle.words.proofs.Written.{over-length}
-use Rattle.sums.specs.declared.shares.Runs.{Runs}
-use Rattle.sums.specs.Share.{start, runAll}
-use Rattle.sums.specs.Plan.{runningOf}
-use Rattle.sums.specs.State.{RunsReady}
-use Rattle.sums.proofs.States.{none-ready}
-use Rattle.site.specs.Results.{resultsTo}
-use Rattle.site.specs.Check.{recordsFrom}
-use Rattle.site.proofs.Turns.{run-turn, run-none}
-use Rattle.site.proofs.Output.{results-long, none-written, out-long, block-lent}
+use Rattle.site_rules.specs.Results.{resultsTo}
+use Rattle.site_rules.proofs.OutputBlocks.{results-long}
+use Rattle.site.proofs.Output.{none-written, out-long, block-lent}
 use Rattle.site.proofs.Running.{Along, along-first, along-next, along-last}
 use borrow.Author.Needs.{needs}
 use Rattle.site.proofs.put_blocks.Statement.{statement}

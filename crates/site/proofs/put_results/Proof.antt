@@ -1,5 +1,5 @@
 -- `site::put_results` meets its contract. Assumes nothing.
-use mathlib.Core.Path.{_≡_, refl, sym, ap, ap₂, _∙_}
+use mathlib.Core.Path.{_≡_, ap, ap₂, _∙_}
 use mathlib.Core.List.{List, _++_}
 use Prim.Native.Nat.{ℕ, _+_, _*_, _≤_}
 use native.Mathlib.Omega.{arith}
@@ -7,17 +7,15 @@ use lib.ListN.{length, take, drop, length-append}
 use lib.Seq.{length-take-le}
 use Rattle.words.specs.Bytes.{over}
 use Rattle.words.proofs.Written.{over-length}
-use Rattle.writers.specs.Blocks.{summaryBlock}
-use Rattle.writers.proofs.ResultsBack.{summary-length}
-use Rattle.sums.specs.Share.{Running, start, runAll}
-use Rattle.sums.specs.ListCall.{accepted}
-use Rattle.sums.specs.State.{reportedOf}
+use Rattle.block_rules.specs.Layouts.{summaryBlock}
+use Rattle.block_rules.proofs.ResultsBack.{summary-length}
+use Rattle.sum_rules.specs.ListCall.{accepted}
 use Rattle.sums.proofs.Steps.{ready-size}
-use Rattle.site.specs.Results.{resultsTo}
-use Rattle.site.specs.Check.{recordsFrom}
-use Rattle.site.proofs.Output.{results-long, summary-lent}
+use Rattle.site_rules.specs.Results.{resultsTo}
+use Rattle.site_rules.proofs.OutputBlocks.{results-long}
+use Rattle.site.proofs.Output.{summary-lent}
 use Rattle.sums.specs.declared.shares.Plan.{Plan}
-use Rattle.sums.specs.declared.SideSums.{SideSums}
+use Rattle.sum_rules.specs.declared.SideSums.{SideSums}
 use borrow.Author.Needs.{needs}
 use Rattle.site.proofs.put_results.Statement.{statement}
 use Rattle.site.proofs.put_results.Tie as tie

@@ -1,6 +1,6 @@
 -- `sums::judge` meets its contract. Assumes nothing.
 use mathlib.Core.Path.{sym, _∙_}
-use Rattle.sums.specs.Verdict.{verdictOf}
+use Rattle.sum_rules.specs.Verdict.{verdictOf}
 use borrow.Author.Needs.{needs}
 use Rattle.sums.proofs.judge.Statement.{statement}
 use Rattle.sums.proofs.judge.Tie as tie

@@ -1,5 +1,5 @@
 -- `writers::contaminant_fit` meets its contract. Assumes nothing.
-use Rattle.writers.specs.Answers.{contaminantFit}
+use Rattle.block_rules.specs.Answers.{contaminantFit}
 use borrow.Author.Needs.{needs}
 use Rattle.writers.proofs.contaminant_fit.Statement.{statement}
 use Rattle.writers.proofs.contaminant_fit.Tie as tie

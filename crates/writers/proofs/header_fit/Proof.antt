@@ -1,5 +1,5 @@
 -- `writers::header_fit` meets its contract. Assumes nothing.
-use Rattle.writers.specs.Answers.{headerFit}
+use Rattle.block_rules.specs.Answers.{headerFit}
 use borrow.Author.Needs.{needs}
 use Rattle.writers.proofs.header_fit.Statement.{statement}
 use Rattle.writers.proofs.header_fit.Tie as tie

@@ -3,7 +3,7 @@ use native.Mathlib.Omega.{arith}
 use Rattle.words.specs.Bytes.{le4}
 use Rattle.words.proofs.Words.{le4-length}
 use Rattle.words.proofs.Written.{Placed, placed-next}
-use Rattle.writers.specs.Blocks.{firstWords}
+use Rattle.block_rules.specs.Layouts.{firstWords}
 use borrow.Author.Needs.{needs}
 use Rattle.writers.proofs.put_first_words.Statement.{statement}
 use Rattle.writers.proofs.put_first_words.Tie as tie

@@ -8,8 +8,9 @@ use Rattle.fields.specs.Fields.{fieldBytes}
 use Rattle.fields.proofs.ReadBack.{fieldBytes-length}
 use Rattle.decimal.specs.declared.Decimal.{Decimal}
 use Rattle.inputs.specs.Inputs.{scenarioDecimals}
-use Rattle.writers.specs.Blocks.{firstWords, bodyOf, headerBlock}
-use Rattle.writers.proofs.Blocks.{firstWords-length, wrote-fields, wrote-block}
+use Rattle.block_rules.specs.Layouts.{firstWords, bodyOf, headerBlock}
+use Rattle.block_rules.proofs.Lengths.{firstWords-length}
+use Rattle.writers.proofs.Blocks.{wrote-fields, wrote-block}
 use borrow.Author.Needs.{needs}
 use Rattle.writers.proofs.put_header.Statement.{statement}
 use Rattle.writers.proofs.put_header.Tie as tie

@@ -3,7 +3,7 @@ use mathlib.Core.Path.{ap, _∙_}
 use Prim.Native.Nat.{ℕ, _-_, _%_}
 use native.Mathlib.Omega.{arith}
 use Rattle.words.specs.Bytes.{placed, le4}
-use Rattle.writers.specs.Blocks.{lastWord}
+use Rattle.block_rules.specs.Layouts.{lastWord}
 use Rattle.writers.proofs.Blocks.{negate}
 use borrow.Author.Needs.{needs}
 use Rattle.writers.proofs.put_last_word.Statement.{statement}

@@ -7,8 +7,9 @@ use Rattle.words.proofs.Written.{wrote-none, wrote-next}
 use Rattle.fields.specs.Fields.{fieldBytes}
 use Rattle.fields.proofs.ReadBack.{fieldBytes-length}
 use Rattle.decimal.specs.declared.Decimal.{Decimal}
-use Rattle.writers.specs.Blocks.{firstWords, bodyOf, guidelineDecimals, resultBlock}
-use Rattle.writers.proofs.Blocks.{firstWords-length, wrote-fields, wrote-block}
+use Rattle.block_rules.specs.Layouts.{firstWords, bodyOf, guidelineDecimals, resultBlock}
+use Rattle.block_rules.proofs.Lengths.{firstWords-length}
+use Rattle.writers.proofs.Blocks.{wrote-fields, wrote-block}
 use borrow.Author.Needs.{needs}
 use Rattle.writers.proofs.put_result.Statement.{statement}
 use Rattle.writers.proofs.put_result.Tie as tie

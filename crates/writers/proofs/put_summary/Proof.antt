@@ -9,9 +9,10 @@ use Rattle.words.proofs.Written.{Wrote, wrote-none, wrote-next}
 use Rattle.fields.specs.Fields.{fieldBytes}
 use Rattle.fields.proofs.ReadBack.{fieldBytes-length}
 use Rattle.decimal.specs.declared.Decimal.{Decimal}
-use Rattle.sums.specs.Verdict.{verdictNumber}
-use Rattle.writers.specs.Blocks.{firstWords, bodyOf, summaryBlock, summaryDecimals}
-use Rattle.writers.proofs.Blocks.{firstWords-length, wrote-block}
+use Rattle.sum_rules.specs.Verdict.{verdictNumber}
+use Rattle.block_rules.specs.Layouts.{firstWords, bodyOf, summaryBlock, summaryDecimals}
+use Rattle.block_rules.proofs.Lengths.{firstWords-length}
+use Rattle.writers.proofs.Blocks.{wrote-block}
 use borrow.Author.Needs.{needs}
 use Rattle.writers.proofs.put_summary.Statement.{statement}
 use Rattle.writers.proofs.put_summary.Tie as tie

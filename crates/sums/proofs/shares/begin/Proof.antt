@@ -6,7 +6,7 @@ use lib.Dec.{leb}
 use borrow.Author.Tests.{eqb-true, eqb-false}
 use Rattle.outcome.specs.Outcome.{numberOf}
 use Rattle.inputs.specs.Rules.{scenarioFits, lacksFactor}
-use Rattle.sums.proofs.Runs.{first-passed}
+use Rattle.sum_rules.proofs.Runs.{first-passed}
 use Rattle.sums.proofs.States.{blank-valid, fits-parts}
 use borrow.Author.Needs.{needs}
 use Rattle.sums.proofs.shares.begin.Statement.{statement}

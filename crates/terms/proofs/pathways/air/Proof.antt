@@ -1,9 +1,9 @@
 -- `terms::pathways::air` meets its contract. Assumes nothing.
-use mathlib.Core.Path.{_≡_, sym, ap, subst, _∙_}
+use mathlib.Core.Path.{sym, ap, subst, _∙_}
 use Rattle.rounding.specs.declared.Biased.{Biased}
 use Rattle.rounding.specs.Operations.{sumOf}
-use Rattle.terms.specs.Formula.{B}
-use Rattle.terms.specs.Term.{look}
+use Rattle.formulas.specs.Formula.{B}
+use Rattle.formulas.specs.Term.{look}
 use Rattle.terms.specs.Stands.{Stands}
 use Rattle.terms.specs.Side.{numberValues}
 use Rattle.terms.proofs.NumberValues.{airNumber, air-stands}

@@ -1,6 +1,6 @@
 -- `terms::pathways::soil_chemical_hazard` meets its contract: each term is that of its formula in the table. Assumes nothing.
 use lib.Dec.{lit≤}
-use Rattle.terms.specs.Formula.{table, pathwaysOf, derived}
+use Rattle.formulas.specs.Formula.{table, pathwaysOf, derived}
 use Rattle.terms.specs.Side.{numberValues}
 use Rattle.terms.proofs.StandsLaws.{stands-div, stands-middle, stands-mul3, stands-operand}
 use Rattle.terms.proofs.Constants.{days-stands}

@@ -1,5 +1,6 @@
 -- `terms::pathways::terms_of` meets its contract. Assumes nothing.
-use Rattle.terms.proofs.NumberValues.{other-one, other-two, terms-at, no-soil-hazard, no-water-hazard}
+use Rattle.inputs.proofs.Tests.{other-one, other-two}
+use Rattle.terms.proofs.NumberValues.{terms-at, no-soil-hazard, no-water-hazard}
 use borrow.Author.Needs.{needs}
 use Rattle.terms.proofs.pathways.terms_of.Statement.{statement}
 use Rattle.terms.proofs.pathways.terms_of.Tie as tie

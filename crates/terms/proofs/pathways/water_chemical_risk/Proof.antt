@@ -1,11 +1,10 @@
 -- `terms::pathways::water_chemical_risk` meets its contract: each term is that of its formula in the table. Assumes nothing.
 use lib.Dec.{lit≤}
-use Rattle.terms.specs.Formula.{table, pathwaysOf, derived}
+use Rattle.formulas.specs.Formula.{table, pathwaysOf, derived}
 use Rattle.terms.specs.Side.{numberValues}
 use Rattle.terms.proofs.StandsLaws.{stands-div, stands-middle, stands-mul, stands-mul3, stands-operand}
 use Rattle.terms.proofs.Constants.{half-stands, thousandth-stands}
 use Rattle.terms.proofs.NumberValues.{side-term}
-use borrow.Author.Needs.{needs}
 use Rattle.terms.proofs.pathways.water_chemical_risk.Statement.{statement}
 use Rattle.terms.proofs.pathways.water_chemical_risk.Tie as tie
 

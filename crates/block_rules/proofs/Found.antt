@@ -1,0 +1,114 @@
+-- A header or a contaminant that is found has passed every test, and a refusal never has number 0. Assumes nothing.
+use mathlib.Core.Path.{_≡_, refl, sym, ap, _∙_, subst}
+use mathlib.Core.List.{List}
+use mathlib.Core.Bool.{Bool, true, false, _&&_, not, cond}
+use Prim.Native.Nat.{ℕ, _<_}
+use native.Mathlib.Omega.{arith}
+use lib.ListN.{length}
+use lib.Dec.{eqb, leb}
+use borrow.Author.Tests.{leb-false, not-false}
+use Rattle.outcome.specs.declared.Refusal.{Refusal}
+use Rattle.outcome.specs.declared.Refusal.the-variants.{Length, Check, Kind, Field, Count, Factor, Order, Accepted}
+use Rattle.outcome.specs.Outcome.{numberOf}
+use Rattle.words.specs.Words.{wordAt}
+use Rattle.inputs.specs.declared.Contaminant.{Contaminant}
+use Rattle.inputs.specs.Rules.{scenarioFits, contaminantFits, lacksFactor}
+use Rattle.inputs.proofs.Tests.{and-split}
+use Rattle.block_rules.specs.declared.Header.{Header}
+use Rattle.block_rules.specs.declared.HeaderRead.the-variants as H
+use Rattle.block_rules.specs.declared.ContaminantRead.the-variants as C
+use Rattle.block_rules.specs.Rules.{countOk}
+use Rattle.block_rules.specs.Reading.{scenarioAt, headerAt, headerUnused, contaminantAt, contaminantUnused, soundAt, headerRead, contaminantRead}
+
+-- where a test's answer is not what was sent back, the test was false
+pub passed : {A : Type 0} (t : Bool) (x y z : A) → (x ≡ z → ⊥) → cond t x y ≡ z → (t ≡ false) × (y ≡ z)
+passed true x y z n e = absurd (n e)
+passed false x y z n e = (refl, e)
+
+-- ---- a contaminant
+other : (x : Refusal) (r : Contaminant) → C.Refused x ≡ C.Found r → ⊥
+other x r e = let z : _≡_ {A = ℕ} 0 1 = cc in omega arith
+
+pub record ContaminantFacts (b : List ℕ) (previous : ℕ) (r : Contaminant) : Type 0 where
+  pub is : r ≡ contaminantAt b 8
+  pub valid : contaminantFits r ≡ true
+  pub above : previous < r .id
+
+pub contaminant-facts : (b : List ℕ) (place previous : ℕ) (r : Contaminant) → contaminantRead b place previous ≡ C.Found r → ContaminantFacts b previous r
+unfolding contaminantRead contaminantAt
+contaminant-facts b place previous r e =
+    let e₁ = passed (not (eqb (length b) 512)) (C.Refused Length) _ (C.Found r) (other Length r) e .1 in
+    let e₂ = passed (not (soundAt b place)) (C.Refused Check) _ (C.Found r) (other Check r) e₁ .1 in
+    let e₃ = passed (not (eqb (wordAt b 0) 2)) (C.Refused Kind) _ (C.Found r) (other Kind r) e₂ .1 in
+    let e₄ = passed (not (contaminantFits (contaminantAt b 8) && contaminantUnused b 8)) (C.Refused Field) _ (C.Found r) (other Field r) e₃ in
+    let e₅ = passed (leb (wordAt b 12) previous) (C.Refused Order) (C.Found (contaminantAt b 8)) (C.Found r) (other Order r) (e₄ .1) in
+    let same : contaminantAt b 8 ≡ r = cc (e₅ .1) in
+    record {
+      is = sym same;
+      valid = ap contaminantFits (sym same) ∙ and-split (contaminantFits (contaminantAt b 8)) (contaminantUnused b 8) (not-false _ (e₄ .0)) .0;
+      above = subst (λ (x : Contaminant). previous < x .id) same (leb-false (wordAt b 12) previous (e₅ .0));
+    }
+
+-- ---- a header
+not-header : (x : Refusal) (h : Header) → H.Refused x ≡ H.Found h → ⊥
+not-header x h e = let z : _≡_ {A = ℕ} 0 1 = cc in omega arith
+
+pub record HeaderFacts (b : List ℕ) (blocks : ℕ) (h : Header) : Type 0 where
+  pub is : h ≡ headerAt b 8
+  pub valid : scenarioFits (h .scenario) (h .medium) ≡ true
+  pub count : countOk (h .count) blocks ≡ true
+  pub factors : lacksFactor (h .scenario) ≡ false
+
+pub header-facts : (b : List ℕ) (blocks : ℕ) (h : Header) → headerRead b blocks ≡ H.Found h → HeaderFacts b blocks h
+unfolding headerRead headerAt
+header-facts b blocks h e =
+    let e₁ = passed (not (eqb (length b) 512)) (H.Refused Length) _ (H.Found h) (not-header Length h) e .1 in
+    let e₂ = passed (not (soundAt b 0)) (H.Refused Check) _ (H.Found h) (not-header Check h) e₁ .1 in
+    let e₃ = passed (not (eqb (wordAt b 0) 1)) (H.Refused Kind) _ (H.Found h) (not-header Kind h) e₂ .1 in
+    let e₄ = passed (not (scenarioFits (scenarioAt b 16) (wordAt b 8) && headerUnused b 8)) (H.Refused Field) _ (H.Found h) (not-header Field h) e₃ in
+    let e₅ = passed (not (countOk (wordAt b 12) blocks)) (H.Refused Count) _ (H.Found h) (not-header Count h) (e₄ .1) in
+    let e₆ = passed (lacksFactor (scenarioAt b 16)) (H.Refused Factor) (H.Found (headerAt b 8)) (H.Found h) (not-header Factor h) (e₅ .1) in
+    let same : headerAt b 8 ≡ h = cc (e₆ .1) in
+    record {
+      is = sym same;
+      valid = ap (λ (x : Header). scenarioFits (x .scenario) (x .medium)) (sym same) ∙ and-split (scenarioFits (scenarioAt b 16) (wordAt b 8)) (headerUnused b 8) (not-false _ (e₄ .0)) .0;
+      count = ap (λ (x : Header). countOk (x .count) blocks) (sym same) ∙ not-false _ (e₅ .0);
+      factors = ap (λ (x : Header). lacksFactor (x .scenario)) (sym same) ∙ e₆ .0;
+    }
+
+-- ---- a refusal never has number 0
+nonzero : {A : Type 0} (sent : Refusal → A) → ((x y : Refusal) → sent x ≡ sent y → x ≡ y) → (t : Bool) (x : Refusal) (rest : A) → (numberOf x ≡ 0 → ⊥)
+    → ((y : Refusal) → rest ≡ sent y → numberOf y ≡ 0 → ⊥) → (y : Refusal) → cond t (sent x) rest ≡ sent y → numberOf y ≡ 0 → ⊥
+nonzero sent same true x rest n k y e z = n (ap numberOf (same x y e) ∙ z)
+nonzero sent same false x rest n k y e z = k y e z
+
+same-contaminant : (x y : Refusal) → C.Refused x ≡ C.Refused y → x ≡ y
+same-contaminant x y e = cc
+
+same-header : (x y : Refusal) → H.Refused x ≡ H.Refused y → x ≡ y
+same-header x y e = cc
+
+pub contaminant-refused : (b : List ℕ) (place previous : ℕ) (y : Refusal) → contaminantRead b place previous ≡ C.Refused y → numberOf y ≡ 0 → ⊥
+unfolding contaminantRead
+contaminant-refused b place previous =
+    nonzero C.Refused same-contaminant (not (eqb (length b) 512)) Length _ (λ z. omega arith)
+    (nonzero C.Refused same-contaminant (not (soundAt b place)) Check _ (λ z. omega arith)
+    (nonzero C.Refused same-contaminant (not (eqb (wordAt b 0) 2)) Kind _ (λ z. omega arith)
+    (nonzero C.Refused same-contaminant (not (contaminantFits (contaminantAt b 8) && contaminantUnused b 8)) Field _ (λ z. omega arith)
+    (nonzero C.Refused same-contaminant (leb (wordAt b 12) previous) Order (C.Found (contaminantAt b 8)) (λ z. omega arith)
+    (λ y e z. other y (contaminantAt b 8) (sym e))))))
+
+pub header-refused : (b : List ℕ) (blocks : ℕ) (y : Refusal) → headerRead b blocks ≡ H.Refused y → numberOf y ≡ 0 → ⊥
+unfolding headerRead
+header-refused b blocks =
+    nonzero H.Refused same-header (not (eqb (length b) 512)) Length _ (λ z. omega arith)
+    (nonzero H.Refused same-header (not (soundAt b 0)) Check _ (λ z. omega arith)
+    (nonzero H.Refused same-header (not (eqb (wordAt b 0) 1)) Kind _ (λ z. omega arith)
+    (nonzero H.Refused same-header (not (scenarioFits (scenarioAt b 16) (wordAt b 8) && headerUnused b 8)) Field _ (λ z. omega arith)
+    (nonzero H.Refused same-header (not (countOk (wordAt b 12) blocks)) Count _ (λ z. omega arith)
+    (nonzero H.Refused same-header (lacksFactor (scenarioAt b 16)) Factor (H.Found (headerAt b 8)) (λ z. omega arith)
+    (λ y e z. not-header y (headerAt b 8) (sym e)))))))
+
+-- what has another number is not accepted
+pub refused : (a : Refusal) → (numberOf a ≡ 0 → ⊥) → a ≡ Accepted → ⊥
+refused a n e = n (ap numberOf e)

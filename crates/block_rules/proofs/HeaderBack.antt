@@ -1,0 +1,142 @@
+-- Reading what the writer of kind 1 wrote gives the same header, each decimal with the same m and the same e. Assumes nothing.
+use mathlib.Core.Path.{_≡_, refl, ap, ap₂, _∙_}
+use mathlib.Core.List.{List}
+use mathlib.Core.Bool.{Bool, true, false, _&&_, not}
+use Prim.Native.Nat.{ℕ, _+_}
+use native.Mathlib.Omega.{arith}
+use lib.ListN.{length, getD, replicate}
+use lib.Dec.{eqb, ltb}
+use borrow.Author.Tests.{eq-eqb, not-false}
+use Rattle.outcome.specs.declared.Refusal.{Refusal}
+use Rattle.outcome.specs.declared.Refusal.the-variants.{Accepted, Field, Factor, Room}
+use Rattle.words.specs.Words.{wordAt, partOf}
+use Rattle.words.specs.Bytes.{over}
+use Rattle.words.proofs.Written.{part-over}
+use Rattle.words.proofs.ReadBack.{zeros-rest}
+use Rattle.decimal.specs.declared.Decimal.{Decimal}
+use Rattle.decimal.specs.Decimal.{zeroOf}
+use Rattle.inputs.specs.declared.Scenario.{Scenario}
+use Rattle.inputs.specs.Inputs.{scenarioDecimals}
+use Rattle.inputs.specs.Valid.{allValid}
+use Rattle.inputs.specs.Rules.{oneOrTwo, scenarioFits, lacksFactor}
+use Rattle.inputs.proofs.Tests.{and-split}
+use Rattle.fields.specs.Fields.{decimalsAt}
+use Rattle.fields.proofs.ReadBack.{all-fit}
+use Rattle.block_rules.specs.declared.Header.{Header}
+use Rattle.block_rules.specs.declared.HeaderRead.the-variants as H
+use Rattle.block_rules.specs.Rules.{inFile, countOk}
+use Rattle.block_rules.specs.Reading.{scenarioAt, headerAt, headerUnused, soundAt, headerRead}
+use Rattle.block_rules.proofs.Found.{passed, refused}
+use Rattle.block_rules.proofs.Rules.{in-file, at-most-two}
+use Rattle.block_rules.specs.Layouts.{headerBlock}
+use Rattle.block_rules.specs.Answers.{headerFit, headerAnswer, leftBy, headerLeft}
+use Rattle.block_rules.proofs.ReadBack.{zeros-long, kind-back, first-back, second-back, decimals-back, unused-back, ending-back, block-length, sound-back}
+
+pub header-length : (h : Header) → length (headerBlock h) ≡ 512
+unfolding headerBlock
+header-length h = block-length 1 0 (h .medium) (h .count) (scenarioDecimals (h .scenario)) (replicate 396 0) (zeros-long 12 396 refl)
+
+module _ (h : Header) (fit : headerFit h ≡ true) (known : lacksFactor (h .scenario) ≡ false) where
+  abbrev hb : List ℕ
+  hb = headerBlock h
+
+  abbrev s : Scenario
+  s = h .scenario
+
+  abbrev ds : List Decimal
+  ds = scenarioDecimals (h .scenario)
+
+  counted : inFile (h .count) ≡ true
+  unfolding headerFit
+  counted = and-split (inFile (h .count)) (scenarioFits (h .scenario) (h .medium)) fit .0
+
+  valid : scenarioFits (h .scenario) (h .medium) ≡ true
+  unfolding headerFit
+  valid = and-split (inFile (h .count)) (scenarioFits (h .scenario) (h .medium)) fit .1
+
+  medium-good : oneOrTwo (h .medium) ≡ true
+  medium-good = and-split (oneOrTwo (h .medium)) (allValid ds) valid .0
+
+  decimals-good : allValid ds ≡ true
+  decimals-good = and-split (oneOrTwo (h .medium)) (allValid ds) valid .1
+
+  read-decimals : decimalsAt hb 16 12 ≡ ds
+  unfolding headerBlock
+  read-decimals = decimals-back 1 0 (h .medium) (h .count) ds (replicate 396 0) (all-fit ds decimals-good)
+
+  nth : (n : ℕ) → getD (decimalsAt hb 16 12) n zeroOf ≡ getD ds n zeroOf
+  nth n = ap (λ (l : List Decimal). getD l n zeroOf) read-decimals
+
+  read-scenario : scenarioAt hb 16 ≡ s
+  unfolding scenarioAt decimalsAt
+  read-scenario = λ i. record {
+    ef = nth 0 i;
+    ed = nth 1 i;
+    bw = nth 2 i;
+    at = nth 3 i;
+    ir = nth 4 i;
+    ira = nth 5 i;
+    pef = nth 6 i;
+    et = nth 7 i;
+    rf = nth 8 i;
+    sa = nth 9 i;
+    tr = nth 10 i;
+    thi = nth 11 i;
+  }
+
+  read-count : wordAt hb 12 ≡ h .count
+  unfolding headerBlock
+  read-count = second-back 1 0 (h .medium) (h .count) ds (replicate 396 0) (omega (arith, in-file (h .count) counted))
+
+  read-header : headerAt hb 8 ≡ h
+  unfolding headerAt headerBlock
+  read-header = λ i. record {
+    medium = first-back 1 0 (h .medium) (h .count) ds (replicate 396 0) (omega (arith, at-most-two (h .medium) medium-good)) i;
+    count = read-count i;
+    scenario = read-scenario i;
+  }
+
+  unused : headerUnused hb 8 ≡ true
+  unfolding headerUnused headerBlock
+  unused = ap₂ (λ (x y : Bool). x && y) (unused-back 1 0 (h .medium) (h .count) ds (replicate 396 0))
+      (zeros-rest hb _ 112 396 396 (ending-back 1 0 (h .medium) (h .count) ds (replicate 396 0) 96 refl) (omega arith))
+
+  sound : soundAt hb 0 ≡ true
+  unfolding headerBlock
+  sound = sound-back 1 0 (h .medium) (h .count) ds (replicate 396 0) (zeros-long 12 396 refl) (omega arith)
+
+  kind : wordAt hb 0 ≡ 1
+  unfolding headerBlock
+  kind = kind-back 1 0 (h .medium) (h .count) ds (replicate 396 0) (omega arith)
+
+  count-good : countOk (wordAt hb 12) (h .count + 1) ≡ true
+  unfolding countOk
+  count-good = ap (λ (n : ℕ). inFile n && eqb (n + 1) (h .count + 1)) read-count ∙ simp (counted, eq-eqb (h .count + 1) (h .count + 1) refl)
+
+  factors-good : lacksFactor (scenarioAt hb 16) ≡ false
+  factors-good = ap lacksFactor read-scenario ∙ known
+
+  fields-good : scenarioFits (scenarioAt hb 16) (wordAt hb 8) && headerUnused hb 8 ≡ true
+  unfolding headerAt
+  fields-good = ap₂ (λ (x : Header) (y : Bool). scenarioFits (x .scenario) (x .medium) && y) read-header unused ∙ ap (λ (x : Bool). x && true) valid
+
+  pub header-back : headerRead hb (h .count + 1) ≡ H.Found h
+  unfolding headerRead
+  header-back = simp (eq-eqb (length hb) 512 (header-length h), sound, eq-eqb (wordAt hb 0) 1 kind, fields-good, count-good, factors-good, read-header)
+
+  pub header-back-over : (d : List ℕ) → headerRead (partOf (over hb d) 0 512) (h .count + 1) ≡ H.Found h
+  header-back-over d = ap (λ (l : List ℕ). headerRead l (h .count + 1)) (part-over hb d 512 (header-length h)) ∙ header-back
+
+-- ---- the same of what the call leaves, where it accepts
+accepted-fits : (out : List ℕ) (h : Header) → headerAnswer out h ≡ Accepted → (headerFit h ≡ true) × (lacksFactor (h .scenario) ≡ false)
+unfolding headerAnswer
+accepted-fits out h e =
+    let e₁ = passed (ltb (length out) 512) Room _ Accepted (refused Room (λ z. omega arith)) e .1 in
+    let e₂ = passed (not (headerFit h)) Field _ Accepted (refused Field (λ z. omega arith)) e₁ in
+    (not-false _ (e₂ .0), passed (lacksFactor (h .scenario)) Factor Accepted Accepted (refused Factor (λ z. omega arith)) (e₂ .1) .0)
+
+pub header-call-back : (out : List ℕ) (h : Header) → headerAnswer out h ≡ Accepted → headerRead (partOf (headerLeft out h) 0 512) (h .count + 1) ≡ H.Found h
+unfolding headerLeft leftBy
+header-call-back out h e =
+    let f = accepted-fits out h e in
+    ap (λ (a : Refusal). headerRead (partOf (leftBy a (headerBlock h) out) 0 512) (h .count + 1)) e ∙ header-back-over h (f .0) (f .1) out

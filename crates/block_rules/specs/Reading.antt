@@ -1,0 +1,87 @@
+-- What a header block and a contaminant block hold, and what is sent back of one that breaks a rule, in the order of paper 01.
+use Prim.Native.Nat.{ℕ, _+_, _%_}
+use mathlib.Core.List.{List}
+use mathlib.Core.Bool.{Bool, _&&_, not, cond}
+use lib.ListN.{length}
+use lib.Dec.{eqb, leb}
+use Rattle.outcome.specs.declared.Refusal.the-variants.{Length, Check, Kind, Field, Count, Factor, Order}
+use Rattle.words.specs.Words.{wordAt, wordSum, zeros}
+use Rattle.fields.specs.Fields.{decimalAt, unusedZero}
+use Rattle.inputs.specs.declared.Scenario.{Scenario}
+use Rattle.inputs.specs.declared.Contaminant.{Contaminant}
+use Rattle.inputs.specs.Rules.{scenarioFits, contaminantFits, lacksFactor}
+use Rattle.block_rules.specs.declared.Header.{Header}
+use Rattle.block_rules.specs.declared.HeaderRead.{HeaderRead}
+use Rattle.block_rules.specs.declared.HeaderRead.the-variants as H
+use Rattle.block_rules.specs.declared.ContaminantRead.{ContaminantRead}
+use Rattle.block_rules.specs.declared.ContaminantRead.the-variants as C
+use Rattle.block_rules.specs.Rules.{countOk}
+
+-- EF ED BW AT IR IRA PEF ET RF SA TR THI from `at`
+unfoldable pub scenarioAt : List ℕ → ℕ → Scenario
+scenarioAt s at = record {
+  ef = decimalAt s at;
+  ed = decimalAt s (at + 8);
+  bw = decimalAt s (at + 16);
+  at = decimalAt s (at + 24);
+  ir = decimalAt s (at + 32);
+  ira = decimalAt s (at + 40);
+  pef = decimalAt s (at + 48);
+  et = decimalAt s (at + 56);
+  rf = decimalAt s (at + 64);
+  sa = decimalAt s (at + 72);
+  tr = decimalAt s (at + 80);
+  thi = decimalAt s (at + 88);
+}
+
+-- a header whose medium stands at `at`: in a block at 8
+unfoldable pub headerAt : List ℕ → ℕ → Header
+headerAt s at = record { medium = wordAt s at; count = wordAt s (at + 4); scenario = scenarioAt s (at + 8) }
+
+-- its unused bytes are zero
+unfoldable pub headerUnused : List ℕ → ℕ → Bool
+headerUnused s at = unusedZero s (at + 8) 12 && zeros s (at + 104) 396
+
+-- a contaminant whose class stands at `at`: in a block at 8; SFo SFi SFx RfDo RfDi VF PC C
+unfoldable pub contaminantAt : List ℕ → ℕ → Contaminant
+contaminantAt s at = record {
+  class = wordAt s at;
+  id = wordAt s (at + 4);
+  sfo = decimalAt s (at + 8);
+  sfi = decimalAt s (at + 16);
+  sfx = decimalAt s (at + 24);
+  rfdo = decimalAt s (at + 32);
+  rfdi = decimalAt s (at + 40);
+  vf = decimalAt s (at + 48);
+  pc = decimalAt s (at + 56);
+  c = decimalAt s (at + 64);
+}
+
+-- its unused bytes are zero
+unfoldable pub contaminantUnused : List ℕ → ℕ → Bool
+contaminantUnused s at = unusedZero s (at + 8) 8 && zeros s (at + 72) 428
+
+-- the 128 words of a block add to zero, and its place is right
+unfoldable pub soundAt : List ℕ → ℕ → Bool
+soundAt b place = eqb (wordSum b 128 % 4294967296) 0 && eqb (wordAt b 4) place
+
+-- the header block b of a site of so many blocks: what it holds, or 2 to 6. What is no block of 512 bytes is refused by 1
+unfoldable pub headerRead : List ℕ → ℕ → HeaderRead
+headerRead b blocks =
+    cond (not (eqb (length b) 512)) (H.Refused Length)
+    (cond (not (soundAt b 0)) (H.Refused Check)
+    (cond (not (eqb (wordAt b 0) 1)) (H.Refused Kind)
+    (cond (not (scenarioFits (scenarioAt b 16) (wordAt b 8) && headerUnused b 8)) (H.Refused Field)
+    (cond (not (countOk (wordAt b 12) blocks)) (H.Refused Count)
+    (cond (lacksFactor (scenarioAt b 16)) (H.Refused Factor)
+    (H.Found (headerAt b 8)))))))
+
+-- the contaminant block b at a place, after the previous id: what it holds, or 2, 3, 4, 7
+unfoldable pub contaminantRead : List ℕ → ℕ → ℕ → ContaminantRead
+contaminantRead b place previous =
+    cond (not (eqb (length b) 512)) (C.Refused Length)
+    (cond (not (soundAt b place)) (C.Refused Check)
+    (cond (not (eqb (wordAt b 0) 2)) (C.Refused Kind)
+    (cond (not (contaminantFits (contaminantAt b 8) && contaminantUnused b 8)) (C.Refused Field)
+    (cond (leb (wordAt b 12) previous) (C.Refused Order)
+    (C.Found (contaminantAt b 8))))))

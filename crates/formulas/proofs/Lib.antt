@@ -1,0 +1,4 @@
+pub mod Sound
+pub mod TermBounds
+pub mod ValueBounds
+pub mod Presence

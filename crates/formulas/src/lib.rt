@@ -1,0 +1,1 @@
+// The formulas of the terms, rounded and exact: definitions and theorems, no function.

@@ -1,0 +1,4 @@
+pub mod Accepted
+pub mod WorkedOut
+pub mod Promises
+pub mod MarkedFigures

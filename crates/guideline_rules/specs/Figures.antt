@@ -1,0 +1,38 @@
+-- The marked figures of paper 01 ("Checked figures") as one table: those about decimals, and those of the office worker in soil.
+use mathlib.Core.List.{List, [], _∷_, _++_}
+use lib.ListN.{getD}
+use lib.IntN.{pos, negsuc}
+use Rattle.rounding.specs.declared.Direction.the-variants.{Up}
+use Rattle.decimal.specs.Decimal.{zeroOf}
+use Rattle.decimal.specs.Figures.{Figure, figures, dec, _is_}
+use Rattle.inputs.specs.declared.Contaminant.{Contaminant}
+use Rattle.inputs.specs.BuiltIn.{office}
+use Rattle.formulas.specs.Formula.{none, pathwaysOf}
+use Rattle.formulas.specs.Term.{termOf, inputsOf, valuesOf}
+use Rattle.guideline_rules.specs.Guideline.{guidelineOf}
+
+-- a chemical with SFo 1 and RfDo 0.02, all else zero
+abbrev pub chemical : Contaminant
+chemical = record {
+  class = 1;
+  id = 1;
+  sfo = dec 1 (pos 0);
+  sfi = zeroOf;
+  sfx = zeroOf;
+  rfdo = dec 2 (negsuc 1);
+  rfdi = zeroOf;
+  vf = zeroOf;
+  pc = zeroOf;
+  c = zeroOf;
+}
+
+unfoldable pub officeFigures : List Figure
+officeFigures =
+    (termOf (valuesOf Up (inputsOf office chemical)) Up (getD (pathwaysOf 1 1 0) 0 none) is dec 174727426 (negsuc 14)) ∷
+    (guidelineOf office 1 chemical .risk .first is dec 572319997 (negsuc 7)) ∷
+    (guidelineOf office 1 chemical .risk .total is dec 572319997 (negsuc 7)) ∷
+    (guidelineOf office 1 chemical .hazard .first is dec 408799998 (negsuc 3)) ∷
+    (guidelineOf office 1 chemical .hazard .total is dec 408799998 (negsuc 3)) ∷ []
+
+abbrev pub markedFigures : List Figure
+markedFigures = figures ++ officeFigures

@@ -1,0 +1,3 @@
+pub mod Guideline
+pub mod Promise
+pub mod Figures

@@ -1,0 +1,1 @@
+// What the functions of the C library return and leave: definitions and theorems, no function.

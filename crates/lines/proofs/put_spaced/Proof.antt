@@ -1,0 +1,23 @@
+-- `listing::lines::put_spaced` meets its contract. Assumes nothing.
+use mathlib.Core.List.{[], _∷_}
+use native.Mathlib.Omega.{arith}
+use Rattle.text.proofs.Puts.{put-next}
+use Rattle.text.specs.Decimals.{orElse}
+use borrow.Author.Needs.{needs}
+use Rattle.lines.proofs.put_spaced.Statement.{statement}
+use Rattle.lines.proofs.put_spaced.Tie as tie
+
+put-byte-requires : tie.Need-put-byte-requires
+put-byte-requires c κs = search needs
+
+put-decimal-requires : tie.Need-put-decimal-requires
+put-decimal-requires c κs = search needs
+
+same-length : tie.Need-same-length
+same-length c = search needs
+
+returns : tie.Need-returns
+returns c = put-next (c .before .before .before .before .before .before .before .before .before .args .out .now) (32 ∷ []) (orElse (c .before .before .before .before .before .before .before .before .before .args .mark) (c .before .before .before .before .before .before .before .before .before .args .d)) (c .before .before .before .before .before .before .before .before .before .args .at) (omega arith) (c .before .before .before .before .before .before .put-byte .ensures) (c .before .before .put-decimal .ensures)
+
+pub put-spaced-spec : {M : Type 1} → statement M
+put-spaced-spec = tie.close (tie.spec put-byte-requires put-decimal-requires same-length returns)

@@ -1,0 +1,33 @@
+-- `listing::spelt::put_side` meets its contract. Assumes nothing.
+use Rattle.lines.proofs.Spelling.{risk-word, hazard-word}
+use Rattle.lines.proofs.Chains.{put-same}
+use borrow.Author.Needs.{needs}
+use Rattle.lines.proofs.spelt.put_side.Statement.{statement}
+use Rattle.lines.proofs.spelt.put_side.Tie as tie
+
+slice-aggregate-put-word : tie.Need-slice-aggregate-put-word
+slice-aggregate-put-word c = search needs
+
+put-word-requires : tie.Need-put-word-requires
+put-word-requires c κs = search needs
+
+same-length : tie.Need-same-length
+same-length c = search needs
+
+returns : tie.Need-returns
+returns c = put-same (c .before .before .before .before .before .before .before .args .out .now) (c .before .before .before .before .before .before .before .args .at) (risk-word (c .before .before .before .before .before .if1 .taken)) (c .before .before .put-word .ensures)
+
+slice-aggregate-put-word-2 : tie.Need-slice-aggregate-put-word-2
+slice-aggregate-put-word-2 c = search needs
+
+put-word-requires-2 : tie.Need-put-word-requires-2
+put-word-requires-2 c κs = search needs
+
+same-length-2 : tie.Need-same-length-2
+same-length-2 c = search needs
+
+returns-2 : tie.Need-returns-2
+returns-2 c = put-same (c .before .before .before .before .before .before .before .args .out .now) (c .before .before .before .before .before .before .before .args .at) (hazard-word (c .before .before .before .before .before .before .before .args .side) (c .before .before .before .before .before .if1 .left)) (c .before .before .put-word2 .ensures)
+
+pub put-side-spec : {M : Type 1} → statement M
+put-side-spec = tie.close (tie.spec slice-aggregate-put-word put-word-requires same-length returns slice-aggregate-put-word-2 put-word-requires-2 same-length-2 returns-2)

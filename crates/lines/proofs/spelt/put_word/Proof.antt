@@ -1,0 +1,49 @@
+-- `listing::spelt::put_word` meets its contract. Assumes nothing.
+use Prim.Native.Nat.{_-_, _≤_}
+use mathlib.Core.Path.{_≡_}
+use native.Mathlib.Omega.{arith}
+use lib.ListN.{length, take}
+use Rattle.words.specs.Bytes.{placed}
+use Rattle.lines.proofs.Spelling.{word-none, word-long, word-next, word-all}
+use borrow.Author.Needs.{needs}
+use Rattle.lines.proofs.spelt.put_word.Statement.{statement}
+use Rattle.lines.proofs.spelt.put_word.Tie as tie
+
+abbrev Inv-loop : tie.InvT-loop
+Inv-loop out₀ at word i₀ out i = (i ≤ length word) × (out ≡ placed out₀ at (take i word))
+
+abbrev μ-loop : tie.MeasureT-loop
+μ-loop out₀ at word i₀ out i = length word - i
+
+loop-holds : tie.Need-loop-holds Inv-loop μ-loop
+loop-holds c = (omega arith, word-none (c .args .out .now) (c .args .word .now) (c .args .at) (c .pre))
+
+shared-slice-read-out : tie.Need-shared-slice-read-out Inv-loop μ-loop
+shared-slice-read-out c = search needs
+
+add-out : tie.Need-add-out Inv-loop μ-loop
+add-out c = search needs
+
+slice-write-out : tie.Need-slice-write-out Inv-loop μ-loop
+slice-write-out c = omega (arith, word-long (c .before .before .before .args .out .now) (c .before .before .before .args .word .now) (c .before .before .before .args .at) (c .before .before .before .pre) (c .before .before .loop .i) (c .before .before .loop .inv .1) (c .before .before .loop .inv .0))
+
+add-i : tie.Need-add-i Inv-loop μ-loop
+add-i c = search needs
+
+loop-less : tie.Need-loop-less Inv-loop μ-loop
+loop-less c = search needs
+
+loop-again : tie.Need-loop-again Inv-loop μ-loop
+loop-again c = (omega arith, word-next (c .before .before .before .args .out .now) (c .before .before .before .args .word .now) (c .before .before .before .args .at) (c .before .before .before .pre) (c .before .before .loop .i) (c .before .before .loop .inv .1) (c .before .loop-test .taken))
+
+add-result : tie.Need-add-result Inv-loop μ-loop
+add-result c = search needs
+
+same-length : tie.Need-same-length Inv-loop μ-loop
+same-length c = word-long (c .before .before .args .out .now) (c .before .before .args .word .now) (c .before .before .args .at) (c .before .before .pre) (c .before .loop .i) (c .before .loop .inv .1) (c .before .loop .inv .0)
+
+returns : tie.Need-returns Inv-loop μ-loop
+returns c = word-all (c .before .before .args .out .now) (c .before .before .args .word .now) (c .before .before .args .at) (c .before .before .pre) (c .before .loop .i) (c .before .loop .inv .1) (omega arith)
+
+pub put-word-spec : {M : Type 1} → statement M
+put-word-spec = tie.close (tie.spec Inv-loop μ-loop loop-holds shared-slice-read-out add-out slice-write-out add-i loop-less loop-again add-result same-length returns)

@@ -1,0 +1,1 @@
+// The listing as text: definitions and theorems, no function.

@@ -1,0 +1,5 @@
+pub mod Site
+pub mod Results
+pub mod Passed
+pub mod Written
+pub mod Refusals

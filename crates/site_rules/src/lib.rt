@@ -1,0 +1,1 @@
+// The rules of the site call: definitions and theorems, no function.

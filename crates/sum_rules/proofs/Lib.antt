@@ -1,0 +1,5 @@
+pub mod ShareBounds
+pub mod Runs
+pub mod Verdicts
+pub mod InRange
+pub mod ExampleSums

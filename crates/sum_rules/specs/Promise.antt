@@ -1,0 +1,62 @@
+-- The words of demand 3 after its first sentence.
+use mathlib.Core.Path.{_≡_}
+use mathlib.Core.Bool.{Bool, true, false, _&&_, _||_}
+use mathlib.Core.List.{List, [], _∷_, map}
+use Prim.Native.Nat.{ℕ, zero, suc}
+use lib.Dec.{eqb}
+use Rattle.decimal.specs.declared.Decimal.{Decimal}
+use Rattle.decimal.specs.Fraction.{Fraction, nothing, given, times, AtMost}
+use Rattle.decimal.specs.Lists.{plusAll}
+use Rattle.inputs.specs.declared.Scenario.{Scenario}
+use Rattle.inputs.specs.declared.Contaminant.{Contaminant}
+use Rattle.formulas.specs.Formula.{pathwaysOf}
+use Rattle.formulas.specs.Term.{inputsOf}
+use Rattle.formulas.specs.ExactTerm.{exactValues, anyPresent}
+use Rattle.sum_rules.specs.declared.SideSums.{SideSums}
+use Rattle.sum_rules.specs.declared.SumsAnswer.{SumsAnswer}
+use Rattle.sum_rules.specs.Share.{exactShare}
+
+-- the exact sum of a list on a side: each record at its own C
+abbrev pub exactSum : Scenario → ℕ → ℕ → List Contaminant → Fraction
+exactSum s medium side rs = plusAll nothing (map (exactShare s medium side) rs)
+
+-- some contaminant of the list has a pathway on the side
+abbrev pub somePathway : Scenario → ℕ → ℕ → List Contaminant → Bool
+somePathway s medium side [] = false
+somePathway s medium side (r ∷ rs) = anyPresent (exactValues (inputsOf s r)) (pathwaysOf medium (r .class) side) || somePathway s medium side rs
+
+-- C is zero throughout
+abbrev pub noConcentration : List Contaminant → Bool
+noConcentration [] = true
+noConcentration (r ∷ rs) = eqb (r .c .m) 0 && noConcentration rs
+
+abbrev pub sideAt : SumsAnswer → ℕ → SideSums
+sideAt a zero = a .risk
+sideAt a (suc n) = a .hazard
+
+-- 1 + 2/1,000,000 and 1 - 2/1,000,000
+abbrev pub more : Fraction
+more = record { top = 1000002; bottom = 1000000 }
+
+abbrev pub less : Fraction
+less = record { top = 999998; bottom = 1000000 }
+
+-- the sums enclose the exact sum, each within 2/1,000,000 of it
+pub record Enclosed (lower upper : Decimal) (exact : Fraction) : Type 0 where
+  pub below : AtMost (given lower) exact
+  pub above : AtMost exact (given upper)
+  pub lower-near : AtMost (times exact less) (given lower)
+  pub upper-near : AtMost (given upper) (times exact more)
+
+-- p is more than q
+abbrev pub MoreThan : Fraction → Fraction → Type 0
+MoreThan p q = AtMost p q → ⊥
+
+-- what the verdict says of the exact sum and the target
+pub record Judged (verdict : ℕ) (some : Bool) (exact target : Fraction) : Type 0 where
+  pub none : verdict ≡ 4 → some ≡ false
+  pub never-none : some ≡ false → verdict ≡ 4
+  pub within : verdict ≡ 1 → AtMost exact target
+  pub above : verdict ≡ 2 → MoreThan exact target
+  pub undecided-low : verdict ≡ 3 → AtMost (times exact less) target
+  pub undecided-high : verdict ≡ 3 → AtMost target (times exact more)
