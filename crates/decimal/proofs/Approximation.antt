@@ -12,10 +12,10 @@ use lib.IntN.{ℤ}
 use lib.ListN.{length}
 use borrow.Author.Tests.{eqb-true, eqb-false, ne-eqb}
 use Rattle.rounding.specs.declared.Direction.{Direction}
-use Rattle.rounding.specs.declared.Biased.{Biased}
+use Rattle.rounding.specs.declared.Number.{Number}
 use Rattle.rounding.specs.Direction.{opposite}
 use Rattle.rounding.specs.Within.{Directed}
-use Rattle.rounding.specs.Biased.{worth, one, Nine, InRange}
+use Rattle.rounding.specs.Number.{worth, one, Nine, InRange}
 use Rattle.rounding.specs.Round.{Rounds}
 use Rattle.rounding.specs.Operations.{productOf, quotientOf, sumOf}
 use Rattle.rounding.proofs.Distances.{opposed, directed-refl, directed-more, directed-trans, directed-mul, directed-scale, directed-cancel, directed-add, directed-is}
@@ -50,13 +50,13 @@ pub sized-most : {v w : ℕ} {d : Decimal} → v ≤ w → Sized v d → Sized w
 sized-most h s = record { nine = s .nine; some = s .some; low = omega (arith, s .low); high = omega (arith, s .high) }
 
 -- a number of nine digits, made a decimal
-pub sized-of : (w : ℕ) (r : Biased) → Nine r → 2992 ≤ r .x + w → r .x ≤ 2992 + w → w ≤ 990 → Sized w (decimalOf r)
+pub sized-of : (w : ℕ) (r : Number) → Nine r → 2992 ≤ r .x + w → r .x ≤ 2992 + w → w ≤ 990 → Sized w (decimalOf r)
 sized-of w r n l u h =
     let e = biased-nine r n (record { most = n .most; low = omega arith; high = omega arith }) in
-    let x : raised (decimalOf r .e) ≡ r .x = ap (λ (b : Biased). b .x) e in
+    let x : raised (decimalOf r .e) ≡ r .x = ap (λ (b : Number). b .x) e in
     record { nine = subst Nine (sym e) n; some = omega arith; low = omega arith; high = omega arith }
 
-worth-pos : (r : Biased) → Nine r → 0 < worth r
+worth-pos : (r : Number) → Nine r → 0 < worth r
 worth-pos r n = mul-pos (omega (arith, n .least)) (pow-ten-pos (r .x))
 
 module _ (dir : Direction) {v w : ℕ} {a b : Decimal} (s : Sized v a) (t : Sized w b) where

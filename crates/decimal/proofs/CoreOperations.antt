@@ -7,8 +7,8 @@ use native.Mathlib.Nat.{mul-pos}
 use native.Mathlib.Omega.{arith}
 use lib.Dec.{lit<}
 use Rattle.rounding.specs.declared.Direction.{Direction}
-use Rattle.rounding.specs.declared.Biased.{Biased}
-use Rattle.rounding.specs.Biased.{worth, one, Nine, Working}
+use Rattle.rounding.specs.declared.Number.{Number}
+use Rattle.rounding.specs.Number.{worth, one, Nine, Working}
 use Rattle.rounding.specs.Round.{Rounds}
 use Rattle.rounding.specs.Operations.{productOf, quotientOf, sumOf}
 use Rattle.rounding.proofs.Greatest.{pow-ten-pos, rounds-unique}
@@ -19,12 +19,12 @@ use Rattle.decimal.proofs.OperandFacts.{Operand, operand-is, exponent-i
 use Rattle.decimal.proofs.Laws.{decimal-zero, decimal-worth, decimal-operable, biased-nine, div-zero, same-decimal}
 
 -- two numbers that round the same fraction are the same decimal
-same-rounding : (dir : Direction) (n d : ℕ) (r s : Biased) → 0 < d → Rounds dir n d r → Rounds dir n d s → decimalOf r ≡ decimalOf s
+same-rounding : (dir : Direction) (n d : ℕ) (r s : Number) → 0 < d → Rounds dir n d r → Rounds dir n d s → decimalOf r ≡ decimalOf s
 same-rounding dir n d r s h f g = same-decimal r s (f .working) (g .working) (rounds-unique dir n d r s h f g)
 
-module _ (p : Biased) (a : Operand p) where
+module _ (p : Number) (a : Operand p) where
   -- the number of the decimal of a number
-  abbrev again : Biased
+  abbrev again : Number
   again = biasedOf (decimalOf p)
 
   again-operand : Operand again
@@ -33,7 +33,7 @@ module _ (p : Biased) (a : Operand p) where
   again-worth : worth again ≡ worth p
   again-worth = sym (ap (λ (x : ℕ). decimalOf p .m * 10 ^ x) (exponent-is (decimalOf p) (decimal-operable p (a .working) (a .range) .tested))) ∙ decimal-worth p (a .working) .0
 
-module _ (dir : Direction) (p q : Biased) (a : Operand p) (b : Operand q) where
+module _ (dir : Direction) (p q : Number) (a : Operand p) (b : Operand q) where
   both : areOperands (decimalOf p) (decimalOf q) ≡ true
   both = rw (decimal-operable p (a .working) (a .range) .tested) (decimal-operable q (b .working) (b .range) .tested)
 
@@ -64,7 +64,7 @@ module _ (dir : Direction) (p q : Biased) (a : Operand p) (b : Operand q) where
       let d = again-operand q b in
       let e = biased-nine q n (b .range) in
       ap (λ (t : Bool). cond t (decimalOf (quotientOf dir (again p a) (again q b))) zeroOf) both ∙
-      ap (λ (r : Biased). decimalOf (quotientOf dir (again p a) r)) e ∙
+      ap (λ (r : Number). decimalOf (quotientOf dir (again p a) r)) e ∙
       same-rounding dir (worth p * one) (worth q) _ _ (mul-pos (omega (arith, n .least)) (pow-ten-pos (q .x)))
       (subst (λ (v : ℕ). Rounds dir v (worth q) (quotientOf dir (again p a) q)) (ap (λ (v : ℕ). v * one) (again-worth p a)) (quotient-rounds dir (again p a) q (c .range) (b .range) (c .working) n))
       (quotient-rounds dir p q (a .range) (b .range) (a .working) n)

@@ -10,8 +10,8 @@ use lib.IntN.{subℕ}
 use lib.Dec.{eqb, leb, lit<}
 use borrow.Author.Tests.{eqb-true, eqb-false, eq-eqb, ne-eqb, le-leb}
 use Rattle.rounding.specs.declared.Direction.{Direction}
-use Rattle.rounding.specs.declared.Biased.{Biased}
-use Rattle.rounding.specs.Biased.{worth, one, Nine, Working, InRange, rankOf}
+use Rattle.rounding.specs.declared.Number.{Number}
+use Rattle.rounding.specs.Number.{worth, one, Nine, Working, InRange, rankOf}
 use Rattle.rounding.specs.Round.{Rounds, roundOf}
 use Rattle.rounding.specs.Operations.{productOf, quotientOf, gapOf, alignedOf, sumOf}
 use Rattle.rounding.specs.WorkingForm.{nineOf}
@@ -34,33 +34,33 @@ unfolding isOperand
 operable-zero = record { tested = refl }
 
 -- ---- numbers and their decimals
-pub decimal-zero : (r : Biased) → r .m ≡ 0 → decimalOf r ≡ zeroOf
+pub decimal-zero : (r : Number) → r .m ≡ 0 → decimalOf r ≡ zeroOf
 decimal-zero r z = rw (eq-eqb (r .m) 0 z)
 
-pub decimal-nine : (r : Biased) → Nine r → decimalOf r ≡ record { m = r .m; e = subℕ (r .x) 3000 }
+pub decimal-nine : (r : Number) → Nine r → decimalOf r ≡ record { m = r .m; e = subℕ (r .x) 3000 }
 decimal-nine r n = rw (ne-eqb (r .m) 0 (omega (arith, n .least)))
 
 -- the decimal is worth what the number is
-pub decimal-worth : (r : Biased) → Working r → (worth (plainOf (decimalOf r)) ≡ worth r) × Working (plainOf (decimalOf r))
+pub decimal-worth : (r : Number) → Working r → (worth (plainOf (decimalOf r)) ≡ worth r) × Working (plainOf (decimalOf r))
 decimal-worth r (inl z) = (ap valueOf (decimal-zero r z) ∙ zero-mul (10 ^ 3000) ∙ sym (ap (λ (m : ℕ). m * 10 ^ r .x) z ∙ zero-mul (10 ^ r .x)), inl (ap (λ (d : Decimal). d .m) (decimal-zero r z)))
 decimal-worth r (inr n) =
     let e : plainOf (decimalOf r) ≡ r = ap plainOf (decimal-nine r n) ∙ ap (λ (x : ℕ). record { m = r .m; x = x }) (raise-lower (r .x)) in
     (ap worth e, inr (subst Nine (sym e) n))
 
 -- a number of nine digits in range comes back
-pub biased-nine : (r : Biased) → Nine r → InRange r → biasedOf (decimalOf r) ≡ r
+pub biased-nine : (r : Number) → Nine r → InRange r → biasedOf (decimalOf r) ≡ r
 biased-nine r n g = ap biasedOf (decimal-nine r n) ∙ ap (λ (x : ℕ). record { m = r .m; x = x }) (raised-lower (r .x) (g .low) (g .high))
 
-pub decimal-operable : (r : Biased) → Working r → InRange r → Operable (decimalOf r)
+pub decimal-operable : (r : Number) → Working r → InRange r → Operable (decimalOf r)
 decimal-operable r (inl z) g = subst Operable (sym (decimal-zero r z)) operable-zero
 decimal-operable r (inr n) g = record { tested = ap isOperand (biased-nine r n g) ∙ is-operand r n (omega (arith, g .low)) }
 
 -- ---- the results as roundings
 module _ (dir : Direction) (a b : Decimal) (f : Operable a) (g : Operable b) where
-  abbrev p : Biased
+  abbrev p : Number
   p = biasedOf a
 
-  abbrev q : Biased
+  abbrev q : Number
   q = biasedOf b
 
   pa : Operand p
@@ -79,7 +79,7 @@ module _ (dir : Direction) (a b : Decimal) (f : Operable a) (g : Operable b) whe
   b-worth : valueOf b ≡ worth q
   b-worth = ap (λ (x : ℕ). b .m * 10 ^ x) (exponent-is b (g .tested))
 
-  as-decimal : (n d : ℕ) (r : Biased) (v : Decimal) → v ≡ decimalOf r → Rounds dir n d r → Rounds dir n d (plainOf v)
+  as-decimal : (n d : ℕ) (r : Number) (v : Decimal) → v ≡ decimalOf r → Rounds dir n d r → Rounds dir n d (plainOf v)
   as-decimal n d r v e h = let w = decimal-worth r (h .working) in subst (λ (v : Decimal). Rounds dir n d (plainOf v)) (sym e) (rounds-worth dir n d r (plainOf (decimalOf r)) (w .0) (w .1) h)
 
   pub mul-rounds : Rounds dir (valueOf a * valueOf b) one (plainOf (mulOf a b dir))
@@ -108,7 +108,7 @@ div-zero dir a = cases (isOperand (biasedOf a)) refl
     cases false e = refl
 
 -- a zero factor, and a zero dividend, give (0, 0)
-tested : (t : Bool) (r : Biased) → r .m ≡ 0 → cond t (decimalOf r) zeroOf ≡ zeroOf
+tested : (t : Bool) (r : Number) → r .m ≡ 0 → cond t (decimalOf r) zeroOf ≡ zeroOf
 tested true r z = decimal-zero r z
 tested false r z = refl
 
@@ -138,7 +138,7 @@ module _ (dir : Direction) (a b : Decimal) (h : areOperands a b ≡ false) where
   add-bad = rw h
 
 -- ---- there is one such result: of two working decimals that round the same fraction the pairs are the same
-pub same-decimal : (p q : Biased) → Working p → Working q → worth p ≡ worth q → decimalOf p ≡ decimalOf q
+pub same-decimal : (p q : Number) → Working p → Working q → worth p ≡ worth q → decimalOf p ≡ decimalOf q
 same-decimal p q f g e = cases (worth-same p q f g e)
   where
     cases : ((p .m ≡ 0) × (q .m ≡ 0)) ⊎ (p ≡ q) → decimalOf p ≡ decimalOf q

@@ -6,8 +6,8 @@ use Prim.Native.Nat.{ℕ, _*_, _^_, _≤_, _<_}
 use native.Mathlib.Omega.{arith}
 use lib.Dec.{eqb, leb}
 use borrow.Author.Tests.{eqb-true, eqb-false, leb-true, eq-eqb, ne-eqb, le-leb, not-true}
-use Rattle.rounding.specs.declared.Biased.{Biased}
-use Rattle.rounding.specs.Biased.{worth, Nine, Working, InRange, atMostOf as Biased-atMostOf}
+use Rattle.rounding.specs.declared.Number.{Number}
+use Rattle.rounding.specs.Number.{worth, Nine, Working, InRange, atMostOf as Number-atMostOf}
 use Rattle.decimal.specs.declared.Decimal.{Decimal}
 use Rattle.decimal.specs.declared.Pair.{Pair}
 use Rattle.decimal.specs.Exponent.{raise, raised}
@@ -23,12 +23,12 @@ pub and-right : (a b : Bool) → a && b ≡ true → b ≡ true
 and-right true b h = h
 and-right false b h = absurd (let z : _≡_ {A = ℕ} 0 1 = cc in omega arith)
 
-pub record Operand (r : Biased) : Type 0 where
+pub record Operand (r : Number) : Type 0 where
   pub working : Working r
   pub range : InRange r
 
 -- a number whose exponent is 0 or in range
-operand-core : (r : Biased) → ((r .x ≡ 0 → ⊥) → (2000 < r .x) × (r .x < 4000)) → (b : Bool) → eqb (r .m) 0 ≡ b →
+operand-core : (r : Number) → ((r .x ≡ 0 → ⊥) → (2000 < r .x) × (r .x < 4000)) → (b : Bool) → eqb (r .m) 0 ≡ b →
     cond b (eqb (r .x) 3000) (leb 100000000 (r .m) && (leb (r .m) 999999999 && not (eqb (r .x) 0))) ≡ true → Operand r
 operand-core r f true z h = let e = eqb-true (r .x) 3000 h in let y = eqb-true (r .m) 0 z in record { working = inl y; range = record { most = omega arith; low = omega arith; high = omega arith } }
 operand-core r f false z h =
@@ -43,7 +43,7 @@ unfolding isOperand
 operand-is d h = operand-core (biasedOf d) (raised-bounds (d .e)) (eqb (d .m) 0) refl h
 
 -- the other way round
-pub is-operand : (r : Biased) → Nine r → 0 < r .x → isOperand r ≡ true
+pub is-operand : (r : Number) → Nine r → 0 < r .x → isOperand r ≡ true
 unfolding isOperand
 is-operand r n p = rw (ne-eqb (r .m) 0 (omega (arith, n .least)), le-leb 100000000 (r .m) (n .least), le-leb (r .m) 999999999 (omega (arith, n .most)), ne-eqb (r .x) 0 (omega arith))
 
@@ -52,7 +52,7 @@ pub exponent-is : (d : Decimal) → isOperand (biasedOf d) ≡ true → raise (d
 exponent-is d h = raised-is (d .e) (omega (arith, operand-is d h .range .low))
 
 -- ---- a pair of operands is made and tested
-pub pair-made : (a b : Decimal) (p q : Biased) (g f s : Bool) → p ≡ biasedOf a → q ≡ biasedOf b → f ≡ isOperand p → s ≡ isOperand q → g ≡ f && s → record { good = g; p = p; q = q } ≡ operandsOf a b
+pub pair-made : (a b : Decimal) (p q : Number) (g f s : Bool) → p ≡ biasedOf a → q ≡ biasedOf b → f ≡ isOperand p → s ≡ isOperand q → g ≡ f && s → record { good = g; p = p; q = q } ≡ operandsOf a b
 unfolding operandsOf
 pair-made a b p q g f s u v h k e = rw (e, h, k, u, v)
 
@@ -76,17 +76,17 @@ module _ (a b : Decimal) (t : Pair) (e : t ≡ operandsOf a b) where
         subst Operand (sym q-is) (operand-is b (and-right (isOperand (biasedOf a)) (isOperand (biasedOf b)) g)),
       )
 
-  pub pair-result : (op : Biased → Biased → Biased) (r : Decimal) → t .good ≡ true → r ≡ decimalOf (op (t .p) (t .q)) → r ≡ cond (areOperands a b) (decimalOf (op (biasedOf a) (biasedOf b))) zeroOf
-  pair-result op r h f = subst (λ (v : Bool). r ≡ cond v (decimalOf (op (biasedOf a) (biasedOf b))) zeroOf) (sym (sym good-is ∙ h)) (f ∙ ap (λ (v : Biased). decimalOf (op v (t .q))) p-is ∙ ap (λ (v : Biased). decimalOf (op (biasedOf a) v)) q-is)
+  pub pair-result : (op : Number → Number → Number) (r : Decimal) → t .good ≡ true → r ≡ decimalOf (op (t .p) (t .q)) → r ≡ cond (areOperands a b) (decimalOf (op (biasedOf a) (biasedOf b))) zeroOf
+  pair-result op r h f = subst (λ (v : Bool). r ≡ cond v (decimalOf (op (biasedOf a) (biasedOf b))) zeroOf) (sym (sym good-is ∙ h)) (f ∙ ap (λ (v : Number). decimalOf (op v (t .q))) p-is ∙ ap (λ (v : Number). decimalOf (op (biasedOf a) v)) q-is)
 
   pub pair-none : (v r : Decimal) → t .good ≡ false → r ≡ zeroOf → r ≡ cond (areOperands a b) v zeroOf
   pair-none v r h f = subst (λ (s : Bool). r ≡ cond s v zeroOf) (sym (sym good-is ∙ h)) f
 
-  pub pair-worth : t .good ≡ true → Biased-atMostOf (t .p) (t .q) ≡ atMostOf a b
+  pub pair-worth : t .good ≡ true → Number-atMostOf (t .p) (t .q) ≡ atMostOf a b
   unfolding atMostOf
   pair-worth h =
       let g = sym good-is ∙ h in
-      ap (λ (p : Biased). Biased-atMostOf p (t .q)) p-is ∙ ap (λ (q : Biased). Biased-atMostOf (biasedOf a) q) q-is ∙
+      ap (λ (p : Number). Number-atMostOf p (t .q)) p-is ∙ ap (λ (q : Number). Number-atMostOf (biasedOf a) q) q-is ∙
       sym (ap (λ (x : ℕ). leb (a .m * 10 ^ x) (worth (biasedOf b))) (exponent-is a (and-left (isOperand (biasedOf a)) (isOperand (biasedOf b)) g))) ∙
       sym (ap (λ (x : ℕ). leb (valueOf a) (b .m * 10 ^ x)) (exponent-is b (and-right (isOperand (biasedOf a)) (isOperand (biasedOf b)) g))) ∙
       sym (ap (λ (v : Bool). v && leb (valueOf a) (valueOf b)) g)

@@ -4,8 +4,8 @@ use Prim.Native.Nat.{ℕ, _≤_, _<_}
 use lib.IntN.{pos, subℕ}
 use lib.Dec.{eqb, leb}
 use Rattle.rounding.specs.declared.Direction.{Direction}
-use Rattle.rounding.specs.declared.Biased.{Biased}
-use Rattle.rounding.specs.Biased.{worth}
+use Rattle.rounding.specs.declared.Number.{Number}
+use Rattle.rounding.specs.Number.{worth}
 use Rattle.rounding.specs.Operations.{productOf, quotientOf, sumOf}
 use Rattle.rounding.specs.WorkingForm.{nineOf}
 use Rattle.decimal.specs.declared.Decimal.{Decimal}
@@ -18,26 +18,26 @@ zeroOf = record { m = 0; e = pos 0 }
 
 -- ---- decimals and numbers with a biased exponent
 -- an exponent outside -999 to 999 gives 0, which no operand has
-abbrev pub biasedOf : Decimal → Biased
+abbrev pub biasedOf : Decimal → Number
 biasedOf d = record { m = d .m; x = raised (d .e) }
 
-abbrev pub decimalOf : Biased → Decimal
+abbrev pub decimalOf : Number → Decimal
 decimalOf r = cond (eqb (r .m) 0) zeroOf (record { m = r .m; e = subℕ (r .x) 3000 })
 
 -- what a number must be so that its decimal fits the fields
-pub record Printable (r : Biased) : Type 0 where
+pub record Printable (r : Number) : Type 0 where
   pub digits : r .m < 1000000000
   pub exponent : r .x ≤ 10000
 
 -- what d is worth, in units of 10^-3000
-abbrev pub plainOf : Decimal → Biased
+abbrev pub plainOf : Decimal → Number
 plainOf d = record { m = d .m; x = raise (d .e) }
 
 abbrev pub valueOf : Decimal → ℕ
 valueOf d = worth (plainOf d)
 
 -- ---- an operand: a working decimal, (0, 0) or m from 100,000,000 to 999,999,999, with e from -999 to 999
-unfoldable pub isOperand : Biased → Bool
+unfoldable pub isOperand : Number → Bool
 isOperand r = cond (eqb (r .m) 0) (eqb (r .x) 3000) (leb 100000000 (r .m) && (leb (r .m) 999999999 && not (eqb (r .x) 0)))
 
 abbrev pub areOperands : Decimal → Decimal → Bool

@@ -1,6 +1,6 @@
 -- Fractions of whole numbers: the exact values of paper 01. No step is rounded.
 use Prim.Native.Nat.{ℕ, _+_, _*_, _≤_}
-use Rattle.rounding.specs.Biased.{one}
+use Rattle.rounding.specs.Number.{one}
 use Rattle.decimal.specs.declared.Decimal.{Decimal}
 use Rattle.decimal.specs.Decimal.{valueOf}
 

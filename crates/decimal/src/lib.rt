@@ -1,6 +1,6 @@
 // Decimals (m, e) worth m * 10^e, multiplied, divided and added with the result rounded down or up.
-use rounding::Biased;
 use rounding::Direction;
+use rounding::Number;
 ghost use mathlib.Core.Path.{_≡_};
 ghost use Prim.Native.Nat.{_≤_};
 ghost use lib.IntN.{subℕ};
@@ -43,17 +43,17 @@ fn zero() -> Decimal
 }
 
 // The decimal with a biased exponent.
-pub fn biased(d: Decimal) -> Biased
+pub fn biased(d: Decimal) -> Number
     ensures { λ r. ⌜ r ≡ biasedOf d ⌝ }
 {
     let m = d.m as u64;
     let e = d.e;
     let x = biased_exponent(e);
-    Biased { m, x }
+    Number { m, x }
 }
 
 // The decimal of a number with a biased exponent.
-pub fn unbiased(r: Biased) -> Decimal
+pub fn unbiased(r: Number) -> Decimal
     requires { ⌜ Printable r ⌝ }
     ensures { λ d. ⌜ d ≡ decimalOf r ⌝ }
 {
@@ -67,7 +67,7 @@ pub fn unbiased(r: Biased) -> Decimal
 }
 
 // Whether the number is zero at exponent 0, or has nine digits and an exponent from -999 to 999.
-fn operand(r: Biased) -> bool
+fn operand(r: Number) -> bool
     ensures { λ b. ⌜ b ≡ isOperand r ⌝ }
 {
     let m = r.m;
@@ -87,8 +87,8 @@ fn operand(r: Biased) -> bool
 // Two decimals with biased exponents, and whether both are operands.
 struct Pair {
     good: bool,
-    p: Biased,
-    q: Biased,
+    p: Number,
+    q: Number,
 }
 
 fn operands(a: Decimal, b: Decimal) -> Pair
@@ -112,7 +112,7 @@ impl Decimal {
     {
         let t = operands(self, other);
         if t.good {
-            return unbiased(rounding::product(t.p, t.q, dir));
+            return unbiased(t.p.mul(t.q, dir));
         }
         zero()
     }
@@ -123,7 +123,7 @@ impl Decimal {
     {
         let t = operands(self, other);
         if t.good {
-            return unbiased(rounding::quotient(t.p, t.q, dir));
+            return unbiased(t.p.div(t.q, dir));
         }
         zero()
     }
@@ -134,7 +134,7 @@ impl Decimal {
     {
         let t = operands(self, other);
         if t.good {
-            return unbiased(rounding::sum(t.p, t.q, dir));
+            return unbiased(t.p.add(t.q, dir));
         }
         zero()
     }
@@ -150,7 +150,7 @@ impl Decimal {
         if r.x == 0 {
             return zero();
         }
-        unbiased(rounding::nine(r))
+        unbiased(r.working())
     }
 
     // Whether this working decimal is worth at most the other. False where one of them is none,
@@ -160,7 +160,7 @@ impl Decimal {
     {
         let t = operands(self, other);
         if t.good {
-            return rounding::at_most(t.p, t.q);
+            return t.p.at_most(t.q);
         }
         false
     }

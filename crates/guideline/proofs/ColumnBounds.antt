@@ -10,8 +10,8 @@ use lib.ListN.{length, getD}
 use borrow.Author.Tests.{eq-eqb, lt-ltb}
 use Rattle.rounding.specs.declared.Direction.{Direction}
 use Rattle.rounding.specs.declared.Direction.the-variants.{Down, Up}
-use Rattle.rounding.specs.declared.Biased.{Biased}
-use Rattle.rounding.specs.Biased.{Working, InRange}
+use Rattle.rounding.specs.declared.Number.{Number}
+use Rattle.rounding.specs.Number.{Working, InRange}
 use Rattle.rounding.specs.Operations.{sumOf}
 use Rattle.decimal.specs.declared.Decimal.{Decimal}
 use Rattle.decimal.specs.Decimal.{zeroOf, addOf, divOf, Printable}
@@ -29,26 +29,26 @@ use Rattle.guideline.specs.declared.Column.{Column}
 use Rattle.guideline.specs.Column.{ColumnFor, rangedOf, columnRanged, PrintableColumn, columnDecimals}
 use Rattle.guideline_rules.specs.Guideline.{sideOf, sideDecimals, allRanged}
 
-pub stands-wide : {w : ℕ} {r : Biased} {d : Decimal} → w ≤ 600 → Stands w r d → Wide r
+pub stands-wide : {w : ℕ} {r : Number} {d : Decimal} → w ≤ 600 → Stands w r d → Wide r
 stands-wide h s = record { most = s .most; low = omega (arith, s .low); high = omega (arith, s .high) }
 
-pub stands-printable : {w : ℕ} {r : Biased} {d : Decimal} → w ≤ 990 → Stands w r d → Printable r
+pub stands-printable : {w : ℕ} {r : Number} {d : Decimal} → w ≤ 990 → Stands w r d → Printable r
 stands-printable h s = record { digits = s .most; exponent = omega (arith, s .high) }
 
-pub wide-range : {r : Biased} → Wide r → InRange r
+pub wide-range : {r : Number} → Wide r → InRange r
 wide-range w = record { most = w .most; low = omega (arith, w .low); high = omega (arith, w .high) }
 
-pub total-range : {r : Biased} → TotalSize r → InRange r
+pub total-range : {r : Number} → TotalSize r → InRange r
 total-range w = record { most = w .most; low = omega (arith, w .low); high = omega (arith, w .high) }
 
-pub stands-inside : {w : ℕ} {r : Biased} {d : Decimal} → w ≤ 990 → Stands w r d → Inside d
+pub stands-inside : {w : ℕ} {r : Number} {d : Decimal} → w ≤ 990 → Stands w r d → Inside d
 stands-inside h s = value-inside (stands-value h s)
 
-pub stands-ranged : {w : ℕ} {r : Biased} {d : Decimal} → w ≤ 990 → Stands w r d → rangedOf r ≡ true
+pub stands-ranged : {w : ℕ} {r : Number} {d : Decimal} → w ≤ 990 → Stands w r d → rangedOf r ≡ true
 stands-ranged {w} {r} h s = rw (lt-ltb 2000 (r .x) (omega (arith, s .low)), lt-ltb (r .x) 4000 (omega (arith, s .high)))
 
 -- zero for zero
-pub stands-zero : {w : ℕ} {r : Biased} {d : Decimal} → Stands w r d → eqb (r .m) 0 ≡ eqb (d .m) 0
+pub stands-zero : {w : ℕ} {r : Number} {d : Decimal} → Stands w r d → eqb (r .m) 0 ≡ eqb (d .m) 0
 stands-zero {w} {r} {d} s = cases (s .working)
   where
     cases : Working r → eqb (r .m) 0 ≡ eqb (d .m) 0
@@ -100,9 +100,9 @@ pub record ColumnStands (vs : List Decimal) (target : Decimal) (fs : List Formul
   pub third : Stands 629 (c .third) (divOf target (termOf vs Up (getD fs 2 none)) Down)
   pub total : Stands 631 (c .total) (divOf target (totalOf vs Up fs) Down)
 
-pub column-stands : (vs : List Decimal) (fs : List Formula) (t : Side) → length fs ≡ 3 → SideStands Up vs fs t → (n : Biased) (target : Decimal) (k : Column) → Stands 28 n target → ColumnFor n t k → ColumnStands vs target fs k
+pub column-stands : (vs : List Decimal) (fs : List Formula) (t : Side) → length fs ≡ 3 → SideStands Up vs fs t → (n : Number) (target : Decimal) (k : Column) → Stands 28 n target → ColumnFor n t k → ColumnStands vs target fs k
 column-stands vs fs t h s n target k g e =
-    let u = subst (λ (r : Biased). Stands 602 r (totalOf vs Up fs)) (sym (e .sum)) (sum-stands Up vs fs t h s) in
+    let u = subst (λ (r : Number). Stands 602 r (totalOf vs Up fs)) (sym (e .sum)) (sum-stands Up vs fs t h s) in
     record {
       sum = u;
       first = stands-div Down g (s .first) (lit≤ tt) (e .first);

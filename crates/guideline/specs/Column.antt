@@ -6,12 +6,12 @@ use Rattle.decimal.specs.Decimal.{decimalOf, Printable}
 use Rattle.terms.specs.Side.{TotalSize}
 use Rattle.guideline_rules.specs.declared.SideGuidelines.{SideGuidelines}
 use Rattle.rounding.specs.declared.Direction.the-variants.{Down, Up}
-use Rattle.rounding.specs.declared.Biased.{Biased}
+use Rattle.rounding.specs.declared.Number.{Number}
 use Rattle.rounding.specs.Operations.{quotientOf, sumOf}
 use Rattle.terms.specs.declared.pathways.Side.{Side}
 use Rattle.guideline.specs.declared.Column.{Column}
 
-pub record ColumnFor (target : Biased) (t : Side) (c : Column) : Type 0 where
+pub record ColumnFor (target : Number) (t : Side) (c : Column) : Type 0 where
   pub sum : c .sum ≡ sumOf Up (sumOf Up (t .first) (t .second)) (t .third)
   pub size : TotalSize (c .sum)
   pub first : c .first ≡ quotientOf Down target (t .first)
@@ -20,7 +20,7 @@ pub record ColumnFor (target : Biased) (t : Side) (c : Column) : Type 0 where
   pub total : c .total ≡ quotientOf Down target (c .sum)
 
 -- the exponent is from -999 to 999
-abbrev pub rangedOf : Biased → Bool
+abbrev pub rangedOf : Number → Bool
 rangedOf r = ltb 2000 (r .x) && ltb (r .x) 4000
 
 abbrev pub columnRanged : Side → Column → Bool

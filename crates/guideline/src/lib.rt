@@ -9,13 +9,13 @@ use inputs::contaminant_fits;
 use inputs::lacks_factor;
 use inputs::scenario_fits;
 use outcome::Refusal;
-use rounding::Biased;
 use rounding::Direction;
+use rounding::Number;
 use terms::pathways::Side;
 use terms::pathways::Terms;
 ghost use mathlib.Core.Path.{_≡_};
 ghost use Rattle.rounding.specs.declared.Direction.the-variants.{Down, Up};
-ghost use Rattle.rounding.specs.Biased.{InRange};
+ghost use Rattle.rounding.specs.Number.{InRange};
 ghost use Rattle.rounding.specs.Operations.{quotientOf};
 ghost use Rattle.terms.specs.Side.{Wide, WideSide};
 ghost use Rattle.formulas.specs.Formula.{pathwaysOf};
@@ -26,11 +26,11 @@ ghost use Rattle.guideline_rules.specs.Guideline.{zeroSide, refused as refusedO
 
 // The guidelines of a side as numbers, with the sum of the terms.
 pub struct Column {
-    pub first: Biased,
-    pub second: Biased,
-    pub third: Biased,
-    pub total: Biased,
-    pub sum: Biased,
+    pub first: Number,
+    pub second: Number,
+    pub third: Number,
+    pub total: Number,
+    pub sum: Number,
 }
 
 // Those of both sides.
@@ -40,16 +40,16 @@ pub struct Columns {
 }
 
 // The guideline of a term or of a sum of terms: the target divided by it, down.
-fn over(target: Biased, term: Biased) -> Biased
+fn over(target: Number, term: Number) -> Number
     requires { ⌜ InRange target × InRange term ⌝ }
     ensures { λ r. ⌜ r ≡ quotientOf Down target term ⌝ }
 {
-    rounding::quotient(target, term, Direction::Down)
+    target.div(term, Direction::Down)
 }
 
 // The eight guidelines, written out in one function that is called from one place: so the compiler keeps the
 // numbers in registers (docs/DECISIONS.md, speed).
-pub fn columns_of(tr: Biased, thi: Biased, t: Terms) -> Columns
+pub fn columns_of(tr: Number, thi: Number, t: Terms) -> Columns
     requires { ⌜ (Wide tr × WideSide (t .risk)) × (Wide thi × WideSide (t .hazard)) ⌝ }
     ensures { λ c. ⌜ ColumnFor tr (t .risk) (c .risk) × ColumnFor thi (t .hazard) (c .hazard) ⌝ }
 {
@@ -76,7 +76,7 @@ pub fn columns_of(tr: Biased, thi: Biased, t: Terms) -> Columns
 }
 
 // Whether an exponent is from -999 to 999.
-fn ranged(r: Biased) -> bool
+fn ranged(r: Number) -> bool
     ensures { λ b. ⌜ b ≡ rangedOf r ⌝ }
 {
     both(2000 < r.x, r.x < 4000)

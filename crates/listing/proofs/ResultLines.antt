@@ -10,7 +10,7 @@ use lib.IntN.{subℕ}
 use lib.ListN.{length, getD}
 use Rattle.rounding.specs.declared.Direction.{Direction}
 use Rattle.rounding.specs.declared.Direction.the-variants.{Down, Up}
-use Rattle.rounding.specs.declared.Biased.{Biased}
+use Rattle.rounding.specs.declared.Number.{Number}
 use Rattle.rounding.specs.Operations.{quotientOf}
 use Rattle.rounding.proofs.Exponents.{quotient-result}
 use Rattle.decimal.specs.declared.Decimal.{Decimal}
@@ -44,7 +44,7 @@ use Rattle.listing_rules.specs.Listing.{linesTo}
 use Rattle.listing.specs.Asked.{sideRead, blockLines, blockLinesTo, Written}
 
 -- ---- a guideline fits its field
-digits-of : (r : Biased) → r .m < 1000000000 → decimalOf r .m < 1000000000
+digits-of : (r : Number) → r .m < 1000000000 → decimalOf r .m < 1000000000
 digits-of r h = cases (eqb (r .m) 0)
   where
     cases : (b : Bool) → cond b zeroOf (record { m = r .m; e = subℕ (r .x) 3000 }) .m < 1000000000

@@ -9,8 +9,8 @@ use lib.Dec.{eqb, ltb, leb, lit<, lit≤}
 use borrow.Author.Tests.{eqb-true, ltb-true, ltb-false, leb-true, leb-false}
 use Rattle.rounding.specs.declared.Direction.{Direction}
 use Rattle.rounding.specs.declared.Direction.the-variants.{Down, Up}
-use Rattle.rounding.specs.declared.Biased.{Biased}
-use Rattle.rounding.specs.Biased.{InRange, rankOf, Result, SumResult}
+use Rattle.rounding.specs.declared.Number.{Number}
+use Rattle.rounding.specs.Number.{InRange, rankOf, Result, SumResult}
 use Rattle.rounding.specs.Round.{extraOf, divideOf, cutOf, roundOf}
 use Rattle.rounding.specs.Operations.{dividendOf, divisorOf, gapOf, alignedOf, sumOf}
 use Rattle.rounding.proofs.WholeQuotients.{divide-most, divide-beside, divide-small}
@@ -64,7 +64,7 @@ pub cut-is : (dir : Direction) (q x : ℕ) → record { m = cond (ltb q 10000000
 unfolding cutOf
 cut-is dir q x = cases (ltb q 1000000000)
   where
-    cases : (b : Bool) → _≡_ {A = Biased} (record { m = cond b q (divideOf dir q 10); x = cond b x (x + 1) }) (cond b (record { m = q; x = x }) (record { m = divideOf dir q 10; x = x + 1 }))
+    cases : (b : Bool) → _≡_ {A = Number} (record { m = cond b q (divideOf dir q 10); x = cond b x (x + 1) }) (cond b (record { m = q; x = x }) (record { m = divideOf dir q 10; x = x + 1 }))
     cases true = refl
     cases false = refl
 
@@ -80,7 +80,7 @@ pub record Sizes (n d : ℕ) : Type 0 where
   pub most : n ≤ 9999999990 * d
   pub fits : n + d ≤ 18446744073709551615
 
-pub quotient-sizes : (p q : Biased) → InRange p → InRange q → Sizes (dividendOf p q) (divisorOf q)
+pub quotient-sizes : (p q : Number) → InRange p → InRange q → Sizes (dividendOf p q) (divisorOf q)
 quotient-sizes p q a b = cases (leb 100000000 (q .m)) refl
   where
     cases : (t : Bool) → leb 100000000 (q .m) ≡ t → Sizes (cond t (p .m * 1000000000) 0) (cond t (q .m) 1)
@@ -105,7 +105,7 @@ places-same dir n g h = cases (ltb g 9) refl
     cases true e = refl
     cases false e = divide-small dir n 1000000000 (10 ^ g) h (lt-of-lt-of-le h (power-most 9 g (ltb-false g 9 e)))
 
-pub aligned-is : (dir : Direction) (p q : Biased) → q .m < 1000000000 → cutOf dir (p .m + divideOf dir (q .m) (10 ^ placesOf (gapOf p q))) (p .x) ≡ alignedOf dir p q
+pub aligned-is : (dir : Direction) (p q : Number) → q .m < 1000000000 → cutOf dir (p .m + divideOf dir (q .m) (10 ^ placesOf (gapOf p q))) (p .x) ≡ alignedOf dir p q
 unfolding alignedOf roundOf
 aligned-is dir p q h =
     ap (λ (v : ℕ). cutOf dir v (p .x))
@@ -116,8 +116,8 @@ pub part-most : (dir : Direction) (n k : ℕ) → n < 1000000000 → divideOf di
 part-most dir n k h = divide-most n (10 ^ k) (pow-ten-pos k) dir 1000000000 (omega (arith, h, pow-ten-pos k))
 
 -- ---- the summand that comes first, and the other
-module _ (p q : Biased) (a : InRange p) (b : InRange q) where
-  abbrev Ordered : Biased → Biased → Type 0
+module _ (p q : Number) (a : InRange p) (b : InRange q) where
+  abbrev Ordered : Number → Number → Type 0
   Ordered r s = InRange r × (InRange s × (rankOf s ≤ rankOf r))
 
   pub ordered : Ordered (cond (leb (rankOf q) (rankOf p)) p q) (cond (leb (rankOf q) (rankOf p)) q p)
@@ -127,10 +127,10 @@ module _ (p q : Biased) (a : InRange p) (b : InRange q) where
       cases true e = (a, (b, leb-true (rankOf q) (rankOf p) e))
       cases false e = (b, (a, omega (arith, leb-false (rankOf q) (rankOf p) e)))
 
-  pub ordered-sum : (dir : Direction) (g s r : Biased) → g ≡ cond (leb (rankOf q) (rankOf p)) p q → s ≡ cond (leb (rankOf q) (rankOf p)) q p → (r ≡ alignedOf dir g s) × Result (g .x) r → (r ≡ sumOf dir p q) × SumResult p q r
+  pub ordered-sum : (dir : Direction) (g s r : Number) → g ≡ cond (leb (rankOf q) (rankOf p)) p q → s ≡ cond (leb (rankOf q) (rankOf p)) q p → (r ≡ alignedOf dir g s) × Result (g .x) r → (r ≡ sumOf dir p q) × SumResult p q r
   unfolding sumOf
   ordered-sum dir g s r = cases (leb (rankOf q) (rankOf p))
     where
       cases : (t : Bool) → g ≡ cond t p q → s ≡ cond t q p → (r ≡ alignedOf dir g s) × Result (g .x) r → (r ≡ cond t (alignedOf dir p q) (alignedOf dir q p)) × SumResult p q r
-      cases true e f h = let k : g .x ≡ p .x = ap (λ (v : Biased). v .x) e in (cc, record { most = h .1 .most; low = omega (arith, h .1 .low); high = omega (arith, h .1 .high) })
-      cases false e f h = let k : g .x ≡ q .x = ap (λ (v : Biased). v .x) e in (cc, record { most = h .1 .most; low = omega (arith, h .1 .low); high = omega (arith, h .1 .high) })
+      cases true e f h = let k : g .x ≡ p .x = ap (λ (v : Number). v .x) e in (cc, record { most = h .1 .most; low = omega (arith, h .1 .low); high = omega (arith, h .1 .high) })
+      cases false e f h = let k : g .x ≡ q .x = ap (λ (v : Number). v .x) e in (cc, record { most = h .1 .most; low = omega (arith, h .1 .low); high = omega (arith, h .1 .high) })

@@ -9,8 +9,8 @@ use lib.Pow.{pow-add}
 use lib.Dec.{eqb, ltb, leb, lit<, lit≤}
 use borrow.Author.Tests.{eq-eqb, ne-eqb, le-leb, lt-leb, lt-ltb, leb-true, leb-false}
 use Rattle.rounding.specs.declared.Direction.{Direction}
-use Rattle.rounding.specs.declared.Biased.{Biased}
-use Rattle.rounding.specs.Biased.{worth, one, Nine, Working, InRange, rankOf}
+use Rattle.rounding.specs.declared.Number.{Number}
+use Rattle.rounding.specs.Number.{worth, one, Nine, Working, InRange, rankOf}
 use Rattle.rounding.specs.Round.{Rounds, divideOf, cutOf, roundOf}
 use Rattle.rounding.specs.Operations.{productOf, quotientOf, dividendOf, divisorOf, gapOf, alignedOf, sumOf}
 use Rattle.rounding.proofs.WholeQuotients.{divide-beside, divide-zero}
@@ -46,23 +46,23 @@ pub below : (a b : ℕ) → a < 1000000000 → b < 1000000000 → a * b ≤ 9999
 below a b h k = omega (arith, mul-le-mul {n₁ = a} {m₁ = b} {n₂ = 999999999} {m₂ = 1000000000} (omega arith) (omega arith))
 
 -- what is zero has no worth
-pub worth-zero : (r : Biased) → r .m ≡ 0 → worth r ≡ 0
+pub worth-zero : (r : Number) → r .m ≡ 0 → worth r ≡ 0
 worth-zero r e = rw e (zero-mul (10 ^ r .x))
 
 -- a zero factor, or a zero dividend
-pub product-zero : (dir : Direction) (p q : Biased) → p .m * q .m ≡ 0 → productOf dir p q .m ≡ 0
+pub product-zero : (dir : Direction) (p q : Number) → p .m * q .m ≡ 0 → productOf dir p q .m ≡ 0
 unfolding productOf
-product-zero dir p q z = ap (λ (r : Biased). r .m) (ap (λ (n : ℕ). roundOf dir n 100000000 (p .x + q .x - 2992)) z ∙ round-zero dir 100000000 _ (lit< tt))
+product-zero dir p q z = ap (λ (r : Number). r .m) (ap (λ (n : ℕ). roundOf dir n 100000000 (p .x + q .x - 2992)) z ∙ round-zero dir 100000000 _ (lit< tt))
 
-pub quotient-nothing : (dir : Direction) (p q : Biased) → p .m ≡ 0 → quotientOf dir p q .m ≡ 0
+pub quotient-nothing : (dir : Direction) (p q : Number) → p .m ≡ 0 → quotientOf dir p q .m ≡ 0
 unfolding quotientOf
 quotient-nothing dir p q z = cases (leb 100000000 (q .m)) refl
   where
     cases : (t : Bool) → leb 100000000 (q .m) ≡ t → roundOf dir (cond t (p .m * 1000000000) 0) (cond t (q .m) 1) (p .x + 2991 - q .x) .m ≡ 0
-    cases true e = ap (λ (r : Biased). r .m) (ap (λ (n : ℕ). roundOf dir n (q .m) (p .x + 2991 - q .x)) (rw z (zero-mul 1000000000)) ∙ round-zero dir (q .m) _ (omega (arith, leb-true 100000000 (q .m) e)))
-    cases false e = ap (λ (r : Biased). r .m) (round-zero dir 1 (p .x + 2991 - q .x) (lit< tt))
+    cases true e = ap (λ (r : Number). r .m) (ap (λ (n : ℕ). roundOf dir n (q .m) (p .x + 2991 - q .x)) (rw z (zero-mul 1000000000)) ∙ round-zero dir (q .m) _ (omega (arith, leb-true 100000000 (q .m) e)))
+    cases false e = ap (λ (r : Number). r .m) (round-zero dir 1 (p .x + 2991 - q .x) (lit< tt))
 
-module _ (dir : Direction) (p q : Biased) (a : InRange p) (b : InRange q) where
+module _ (dir : Direction) (p q : Number) (a : InRange p) (b : InRange q) where
   -- ---- the product
   nothing-times : p .m * q .m ≡ 0 → Rounds dir (worth p * worth q) one (productOf dir p q)
   nothing-times z = zero-rounds dir _ one _ (omega (arith, ap (λ (v : ℕ). v * (10 ^ p .x * 10 ^ q .x)) z)) (product-zero dir p q z) one-pos
@@ -96,13 +96,13 @@ module _ (dir : Direction) (p q : Biased) (a : InRange p) (b : InRange q) where
       (round-rounds dir (p .m * 1000000000) (q .m) (p .x + 2991 - q .x) positive (omega (arith, f .least, g .most)) (omega (arith, f .most, g .least))))
 
 -- ---- the sum
-pub rank-zero : (r : Biased) → r .m ≡ 0 → rankOf r ≡ 0
+pub rank-zero : (r : Number) → r .m ≡ 0 → rankOf r ≡ 0
 rank-zero r z = rw (eq-eqb (r .m) 0 z)
 
-pub rank-nine : (r : Biased) → Nine r → rankOf r ≡ r .x
+pub rank-nine : (r : Number) → Nine r → rankOf r ≡ r .x
 rank-nine r g = rw (ne-eqb (r .m) 0 (omega (arith, g .least)))
 
-module _ (dir : Direction) (p q : Biased) where
+module _ (dir : Direction) (p q : Number) where
   -- a summand of nine digits with one that does not come after it
   aligned-nine : Nine p → q .m < 1000000000 → q .m * 10 ^ p .x ≡ worth q * 10 ^ gapOf p q → Rounds dir (worth p + worth q) 1 (alignedOf dir p q)
   unfolding alignedOf
@@ -137,7 +137,7 @@ module _ (dir : Direction) (p q : Biased) where
   unfolding alignedOf
   aligned-zero y z =
       zero-rounds dir _ 1 _ (rw (worth-zero p y, worth-zero q z) (add-zero 0))
-      (ap (λ (r : Biased). r .m) (ap (λ (n : ℕ). roundOf dir n (10 ^ gapOf p q) (p .x)) (none (p .m) (q .m) (10 ^ gapOf p q) y z) ∙ round-zero dir (10 ^ gapOf p q) (p .x) (pow-ten-pos (gapOf p q)))) (lit< tt)
+      (ap (λ (r : Number). r .m) (ap (λ (n : ℕ). roundOf dir n (10 ^ gapOf p q) (p .x)) (none (p .m) (q .m) (10 ^ gapOf p q) y z) ∙ round-zero dir (10 ^ gapOf p q) (p .x) (pow-ten-pos (gapOf p q)))) (lit< tt)
     where
       none : (m n g : ℕ) → m ≡ 0 → n ≡ 0 → m * g + n ≡ 0
       none m n g y z = omega (arith, ap (λ (v : ℕ). v * g) y)
@@ -148,7 +148,7 @@ module _ (dir : Direction) (p q : Biased) where
   aligned-rounds (inr f) (inl z) o h = aligned-nine f (omega (arith, z)) (zero-summand z (gapOf p q))
   aligned-rounds (inr f) (inr g) o h = aligned-nine f (g .most) (nine-summand f g h)
 
-pub sum-rounds : (dir : Direction) (p q : Biased) → InRange p → InRange q → Working p → Working q → Rounds dir (worth p + worth q) 1 (sumOf dir p q)
+pub sum-rounds : (dir : Direction) (p q : Number) → InRange p → InRange q → Working p → Working q → Rounds dir (worth p + worth q) 1 (sumOf dir p q)
 unfolding sumOf
 sum-rounds dir p q a b f g = cases (leb (rankOf q) (rankOf p)) refl
   where
@@ -157,26 +157,26 @@ sum-rounds dir p q a b f g = cases (leb (rankOf q) (rankOf p)) refl
     cases false e = rw (add-comm (worth p) (worth q)) (aligned-rounds dir q p g f (omega (arith, a .low)) (omega (arith, leb-false (rankOf q) (rankOf p) e)))
 
 -- ---- zero and another number: the other number
-aligned-alone : (dir : Direction) (p q : Biased) → p .m < 1000000000 → q .m ≡ 0 → alignedOf dir p q ≡ p
+aligned-alone : (dir : Direction) (p q : Number) → p .m < 1000000000 → q .m ≡ 0 → alignedOf dir p q ≡ p
 unfolding alignedOf roundOf cutOf
 aligned-alone dir p q f z = rw (quotient, lt-ltb (p .m) 1000000000 f)
   where
     quotient : divideOf dir (p .m * 10 ^ gapOf p q + q .m) (10 ^ gapOf p q) ≡ p .m
     quotient = divide-beside (q .m) (10 ^ gapOf p q) (pow-ten-pos (gapOf p q)) dir (p .m) ∙ ap (λ (v : ℕ). p .m + divideOf dir v (10 ^ gapOf p q)) z ∙ ap (λ (v : ℕ). p .m + v) (divide-zero dir (10 ^ gapOf p q) (pow-ten-pos (gapOf p q))) ∙ add-zero (p .m)
 
-pub sum-zero-right : (dir : Direction) (p q : Biased) → p .m < 1000000000 → q .m ≡ 0 → sumOf dir p q ≡ p
+pub sum-zero-right : (dir : Direction) (p q : Number) → p .m < 1000000000 → q .m ≡ 0 → sumOf dir p q ≡ p
 unfolding sumOf
 sum-zero-right dir p q f z = ap (λ (t : Bool). cond t (alignedOf dir p q) (alignedOf dir q p)) (le-leb (rankOf q) (rankOf p) (let e = rank-zero q z in omega (arith, e))) ∙ aligned-alone dir p q f z
 
-pub sum-zero-left : (dir : Direction) (p q : Biased) → p .m ≡ 0 → Nine q → 0 < q .x → sumOf dir p q ≡ q
+pub sum-zero-left : (dir : Direction) (p q : Number) → p .m ≡ 0 → Nine q → 0 < q .x → sumOf dir p q ≡ q
 unfolding sumOf
 sum-zero-left dir p q z g h = ap (λ (t : Bool). cond t (alignedOf dir p q) (alignedOf dir q p)) (lt-leb (rankOf q) (rankOf p) (let e = rank-zero p z in let f = rank-nine q g in omega (arith, e, f))) ∙ aligned-alone dir q p (g .most) z
 
-pub sum-zero-both : (dir : Direction) (p q : Biased) → p .m ≡ 0 → q .m ≡ 0 → sumOf dir p q .m ≡ 0
+pub sum-zero-both : (dir : Direction) (p q : Number) → p .m ≡ 0 → q .m ≡ 0 → sumOf dir p q .m ≡ 0
 unfolding sumOf alignedOf
 sum-zero-both dir p q y z =
     ap (λ (t : Bool). cond t (alignedOf dir p q) (alignedOf dir q p) .m) (le-leb (rankOf q) (rankOf p) (let e = rank-zero q z in omega (arith, e))) ∙
-    ap (λ (r : Biased). r .m) (ap (λ (n : ℕ). roundOf dir n (10 ^ gapOf p q) (p .x)) (none (p .m) (q .m) (10 ^ gapOf p q) y z) ∙ round-zero dir (10 ^ gapOf p q) (p .x) (pow-ten-pos (gapOf p q)))
+    ap (λ (r : Number). r .m) (ap (λ (n : ℕ). roundOf dir n (10 ^ gapOf p q) (p .x)) (none (p .m) (q .m) (10 ^ gapOf p q) y z) ∙ round-zero dir (10 ^ gapOf p q) (p .x) (pow-ten-pos (gapOf p q)))
   where
     none : (m n g : ℕ) → m ≡ 0 → n ≡ 0 → m * g + n ≡ 0
     none m n g y z = omega (arith, ap (λ (v : ℕ). v * g) y)

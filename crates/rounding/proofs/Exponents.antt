@@ -8,8 +8,8 @@ use native.Mathlib.Omega.{arith}
 use lib.Dec.{eqb, ltb, leb, lit<}
 use borrow.Author.Tests.{eq-eqb, ne-eqb, le-leb, lt-leb, ltb-true, ltb-false, leb-true, leb-false}
 use Rattle.rounding.specs.declared.Direction.{Direction}
-use Rattle.rounding.specs.declared.Biased.{Biased}
-use Rattle.rounding.specs.Biased.{worth, Nine, Working, InRange, Result, SumResult, rankOf, atMostOf}
+use Rattle.rounding.specs.declared.Number.{Number}
+use Rattle.rounding.specs.Number.{worth, Nine, Working, InRange, Result, SumResult, rankOf, atMostOf}
 use Rattle.rounding.specs.Round.{divideOf, cutOf, roundOf}
 use Rattle.rounding.specs.Operations.{productOf, dividendOf, divisorOf, quotientOf, gapOf, alignedOf, sumOf}
 use Rattle.rounding.proofs.WholeQuotients.{divide-most}
@@ -30,7 +30,7 @@ round-result : (dir : Direction) (n d x : ℕ) → 0 < d → n ≤ 9999999990 * 
 unfolding roundOf
 round-result dir n d x h l = cut-result dir (divideOf dir n d) x (divide-most n d h dir 9999999990 l)
 
-module _ (dir : Direction) (p q : Biased) (a : InRange p) (b : InRange q) where
+module _ (dir : Direction) (p q : Number) (a : InRange p) (b : InRange q) where
   pub product-result : Result (p .x + q .x - 2992) (productOf dir p q)
   unfolding productOf
   product-result = round-result dir (p .m * q .m) 100000000 (p .x + q .x - 2992) (lit< tt) (omega (arith, below (p .m) (q .m) (a .most) (b .most)))
@@ -39,14 +39,14 @@ module _ (dir : Direction) (p q : Biased) (a : InRange p) (b : InRange q) where
   unfolding quotientOf
   quotient-result = let z = quotient-sizes p q a b in round-result dir (dividendOf p q) (divisorOf q) (p .x + 2991 - q .x) (z .some) (z .most)
 
-aligned-result : (dir : Direction) (p q : Biased) → InRange p → InRange q → Result (p .x) (alignedOf dir p q)
+aligned-result : (dir : Direction) (p q : Number) → InRange p → InRange q → Result (p .x) (alignedOf dir p q)
 unfolding alignedOf
 aligned-result dir p q a b = round-result dir (p .m * 10 ^ gapOf p q + q .m) (10 ^ gapOf p q) (p .x) (pow-ten-pos (gapOf p q)) (most (10 ^ gapOf p q) (pow-ten-pos (gapOf p q)))
   where
     most : (g : ℕ) → 0 < g → p .m * g + q .m ≤ 9999999990 * g
     most g h = omega (arith, mul-le-mul-right g (a .most), b .most, mul-le-mul-right 1000000000 h)
 
-pub sum-result : (dir : Direction) (p q : Biased) → InRange p → InRange q → SumResult p q (sumOf dir p q)
+pub sum-result : (dir : Direction) (p q : Number) → InRange p → InRange q → SumResult p q (sumOf dir p q)
 unfolding sumOf
 sum-result dir p q a b = cases (leb (rankOf q) (rankOf p))
   where
@@ -55,7 +55,7 @@ sum-result dir p q a b = cases (leb (rankOf q) (rankOf p))
     cases false = let f = aligned-result dir q p b a in record { most = f .most; low = omega (arith, f .low); high = omega (arith, f .high) }
 
 -- ---- a lower rank is worth less; at the same rank the digits decide
-rank-lt : (p q : Biased) → Working p → Working q → rankOf p < rankOf q → worth p < worth q
+rank-lt : (p q : Number) → Working p → Working q → rankOf p < rankOf q → worth p < worth q
 rank-lt p q f (inl z) h = absurd (let e : rankOf q ≡ 0 = rw (eq-eqb (q .m) 0 z) in omega (arith, h, e))
 rank-lt p q (inl y) (inr g) h = omega (arith, ap (λ (v : ℕ). v * 10 ^ p .x) y, mul-pos {m = q .m} {n = 10 ^ q .x} (omega (arith, g .least)) (pow-ten-pos (q .x)))
 rank-lt p q (inr f) (inr g) h =
@@ -63,7 +63,7 @@ rank-lt p q (inr f) (inr g) h =
     let j : rankOf q ≡ q .x = rw (ne-eqb (q .m) 0 (omega (arith, g .least))) in
     lt-of-lt-of-le (small (p .m) (p .x) (q .x) (f .most) (omega (arith, h, i, j))) (mul-le-mul-right (10 ^ q .x) (g .least))
 
-module _ (p q : Biased) (f : Working p) (g : Working q) where
+module _ (p q : Number) (f : Working p) (g : Working q) where
   pub rank-order : (rankOf p ≡ rankOf q → ⊥) → ltb (rankOf p) (rankOf q) ≡ atMostOf p q
   rank-order d = cases (ltb (rankOf p) (rankOf q)) refl
     where
@@ -78,10 +78,10 @@ module _ (p q : Biased) (f : Working p) (g : Working q) where
       digits e true t = sym (le-leb (worth p) (worth q) (rw e (mul-le-mul-right (10 ^ q .x) (leb-true (p .m) (q .m) t))))
       digits e false t = sym (lt-leb (worth p) (worth q) (rw e (mul-lt-mul-of-pos-right (leb-false (p .m) (q .m) t) (pow-ten-pos (q .x)))))
 
-      zero : (r : Biased) → r .m ≡ 0 → rankOf r ≡ 0
+      zero : (r : Number) → r .m ≡ 0 → rankOf r ≡ 0
       zero r z = rw (eq-eqb (r .m) 0 z)
 
-      nine : (r : Biased) → Nine r → rankOf r ≡ r .x
+      nine : (r : Number) → Nine r → rankOf r ≡ r .x
       nine r n = rw (ne-eqb (r .m) 0 (omega (arith, n .least)))
 
       cases : Working p → Working q → leb (p .m) (q .m) ≡ atMostOf p q
@@ -91,13 +91,13 @@ module _ (p q : Biased) (f : Working p) (g : Working q) where
       cases (inr n) (inr o) = digits (sym (nine p n) ∙ e ∙ nine q o) (leb (p .m) (q .m)) refl
 
 -- ---- two working decimals of the same worth are the same
-nine-same : (p q : Biased) → Nine p → Nine q → worth p ≡ worth q → p ≡ q
+nine-same : (p q : Number) → Nine p → Nine q → worth p ≡ worth q → p ≡ q
 nine-same p q f g e = ap (λ (x : ℕ). record { m = p .m; x = x }) x-same ∙ ap (λ (m : ℕ). record { m = m; x = q .x }) m-same
   where
     not-lt : {a b : ℕ} → (a < b → ⊥) → b ≤ a
     not-lt h = omega (arith, h)
 
-    not-less : (p q : Biased) → Nine p → Nine q → worth p ≡ worth q → q .x ≤ p .x
+    not-less : (p q : Number) → Nine p → Nine q → worth p ≡ worth q → q .x ≤ p .x
     not-less p q f g e = not-lt (λ h. let l = lt-of-lt-of-le (small (p .m) (p .x) (q .x) (f .most) h) (mul-le-mul-right (10 ^ q .x) (g .least)) in omega (arith, l, e))
 
     x-same : p .x ≡ q .x
@@ -106,14 +106,14 @@ nine-same p q f g e = ap (λ (x : ℕ). record { m = p .m; x = x }) x-same ∙ a
     m-same : p .m ≡ q .m
     m-same = eq-of-mul-eq-mul-right (10 ^ q .x) (pow-ten-pos (q .x)) (p .m) (q .m) (ap (λ (x : ℕ). p .m * 10 ^ x) (sym x-same) ∙ e)
 
-pub worth-same : (p q : Biased) → Working p → Working q → worth p ≡ worth q → ((p .m ≡ 0) × (q .m ≡ 0)) ⊎ (p ≡ q)
+pub worth-same : (p q : Number) → Working p → Working q → worth p ≡ worth q → ((p .m ≡ 0) × (q .m ≡ 0)) ⊎ (p ≡ q)
 worth-same p q (inl y) (inl z) e = inl (y, z)
 worth-same p q (inl y) (inr g) e = absurd (positive q g (sym e ∙ ap (λ (m : ℕ). m * 10 ^ p .x) y))
   where
-    positive : (q : Biased) → Nine q → worth q ≡ 0 * 10 ^ p .x → ⊥
+    positive : (q : Number) → Nine q → worth q ≡ 0 * 10 ^ p .x → ⊥
     positive q g e = let h = mul-pos {m = q .m} {n = 10 ^ q .x} (omega (arith, g .least)) (pow-ten-pos (q .x)) in omega (arith, h, e)
 worth-same p q (inr f) (inl z) e = absurd (positive p f (e ∙ ap (λ (m : ℕ). m * 10 ^ q .x) z))
   where
-    positive : (p : Biased) → Nine p → worth p ≡ 0 * 10 ^ q .x → ⊥
+    positive : (p : Number) → Nine p → worth p ≡ 0 * 10 ^ q .x → ⊥
     positive p f e = let h = mul-pos {m = p .m} {n = 10 ^ p .x} (omega (arith, f .least)) (pow-ten-pos (p .x)) in omega (arith, h, e)
 worth-same p q (inr f) (inr g) e = inr (nine-same p q f g e)

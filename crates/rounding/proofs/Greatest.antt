@@ -12,10 +12,10 @@ use lib.Dec.{ltb, lit≤, lit<}
 use borrow.Author.Tests.{ltb-true, ltb-false}
 use Rattle.rounding.specs.declared.Direction.{Direction}
 use Rattle.rounding.specs.declared.Direction.the-variants.{Down, Up}
-use Rattle.rounding.specs.declared.Biased.{Biased}
+use Rattle.rounding.specs.declared.Number.{Number}
 use Rattle.rounding.specs.Direction.{Side}
 use Rattle.rounding.specs.Within.{Directed}
-use Rattle.rounding.specs.Biased.{worth, Nine, Working}
+use Rattle.rounding.specs.Number.{worth, Nine, Working}
 use Rattle.rounding.specs.Round.{Rounds, divideOf, cutOf, roundOf}
 use Rattle.rounding.proofs.Distances.{directed-scale, directed-cancel, directed-same}
 use Rattle.rounding.proofs.WholeQuotients.{divide-side, divide-best, divide-least, divide-most, divide-near, divide-divide, divide-zero, up-lt}
@@ -66,11 +66,11 @@ module _ (dir : Direction) (n d : ℕ) (h : 0 < d) (l : 100000000 * d ≤ n) whe
       e = omega (arith, p)
 
   -- a working decimal has at most nine digits, so zero needs no case of its own
-  most : (w : Biased) → Working w → w .m < 1000000000
+  most : (w : Number) → Working w → w .m < 1000000000
   most w (inl z) = omega arith
   most w (inr g) = g .most
 
-  rounds-at : (x : ℕ) (r : Biased) → Nine r → worth r ≡ divideOf dir n d * 10 ^ x → Rounds dir (n * 10 ^ x) d r
+  rounds-at : (x : ℕ) (r : Number) → Nine r → worth r ≡ divideOf dir n d * 10 ^ x → Rounds dir (n * 10 ^ x) d r
   rounds-at x r g e = record {
     working = inr g;
     side = rw e (subst (λ (v : ℕ). Side dir v (n * 10 ^ x)) (mul-right-comm (divideOf dir n d) d (10 ^ x)) (side-scale dir (10 ^ x) (divide-side n d h dir)));
@@ -92,7 +92,7 @@ module _ (dir : Direction) (n d n′ d′ : ℕ) (same : n * d′ ≡ n′ * d) 
   near-same : {k : ℕ} (r : ℕ) → 0 < d → Directed dir k (r * d) n → Directed dir k (r * d′) n′
   near-same {k} r h s = directed-cancel dir d h (subst (λ (v : ℕ). Directed dir k (r * d′ * d) v) same (subst (λ (v : ℕ). Directed dir k v (n * d′)) (mul-right-comm r d d′) (directed-scale dir d′ s)))
 
-pub rounds-same : (dir : Direction) (n d n′ d′ : ℕ) (r : Biased) → n * d′ ≡ n′ * d → 0 < d → 0 < d′ → Rounds dir n d r → Rounds dir n′ d′ r
+pub rounds-same : (dir : Direction) (n d n′ d′ : ℕ) (r : Number) → n * d′ ≡ n′ * d → 0 < d → 0 < d′ → Rounds dir n d r → Rounds dir n′ d′ r
 rounds-same dir n d n′ d′ r same h h′ f = record {
   working = f .working;
   side = side-same dir n d n′ d′ same (worth r) h (f .side);
@@ -104,7 +104,7 @@ rounds-same dir n d n′ d′ r same h h′ f = record {
     scaled p = omega (arith, ap (λ (v : ℕ). v * p) same)
 
 -- another working decimal of the same worth
-pub rounds-worth : (dir : Direction) (n d : ℕ) (r r′ : Biased) → worth r′ ≡ worth r → Working r′ → Rounds dir n d r → Rounds dir n d r′
+pub rounds-worth : (dir : Direction) (n d : ℕ) (r r′ : Number) → worth r′ ≡ worth r → Working r′ → Rounds dir n d r → Rounds dir n d r′
 rounds-worth dir n d r r′ e g f = record {
   working = g;
   side = rw e (f .side);
@@ -168,7 +168,7 @@ module _ (dir : Direction) (n d x : ℕ) (h : 0 < d) (l : 100000000 * d ≤ n) (
   round-rounds = cut-cases (ltb q 1000000000) refl
 
 -- ---- zero
-pub zero-rounds : (dir : Direction) (n d : ℕ) (r : Biased) → n ≡ 0 → r .m ≡ 0 → 0 < d → Rounds dir n d r
+pub zero-rounds : (dir : Direction) (n d : ℕ) (r : Number) → n ≡ 0 → r .m ≡ 0 → 0 < d → Rounds dir n d r
 zero-rounds dir n d r z e h = record {
   working = inl e;
   side = both dir (worth r * d) n nothing z;
@@ -192,7 +192,7 @@ unfolding roundOf cutOf
 round-zero dir d x h = rw (divide-zero dir d h)
 
 -- ---- a fraction above zero is not rounded to zero
-pub rounds-nine : (dir : Direction) (n d : ℕ) (r : Biased) → 0 < n → Rounds dir n d r → Nine r
+pub rounds-nine : (dir : Direction) (n d : ℕ) (r : Number) → 0 < n → Rounds dir n d r → Nine r
 rounds-nine dir n d r p f = cases (f .working)
   where
     clash : (dir : Direction) → r .m ≡ 0 → Directed dir 1 (worth r * d) n → ⊥
@@ -204,7 +204,7 @@ rounds-nine dir n d r p f = cases (f .working)
     cases (inr g) = g
 
 -- ---- a larger fraction is not rounded to less, and so a fraction is rounded to one value only
-pub rounds-mono : (dir : Direction) (n d n′ d′ : ℕ) (r r′ : Biased) → 0 < d → 0 < d′ → n * d′ ≤ n′ * d → Rounds dir n d r → Rounds dir n′ d′ r′ → worth r ≤ worth r′
+pub rounds-mono : (dir : Direction) (n d n′ d′ : ℕ) (r r′ : Number) → 0 < d → 0 < d′ → n * d′ ≤ n′ * d → Rounds dir n d r → Rounds dir n′ d′ r′ → worth r ≤ worth r′
 rounds-mono Down n d n′ d′ r r′ h h′ l f g = rw mul-one at (g .best r 0 (f .working) (record { side = rw mul-one fits }) .side)
   where
     fits : worth r * d′ ≤ n′
@@ -214,5 +214,5 @@ rounds-mono Up n d n′ d′ r r′ h h′ l f g = rw mul-one at (f .best r′ 0
     fits : n ≤ worth r′ * d
     fits = le-of-mul-le-mul-right {k = d′} (omega (arith, mul-le-mul-right d (g .side .side), l)) h′
 
-pub rounds-unique : (dir : Direction) (n d : ℕ) (r r′ : Biased) → 0 < d → Rounds dir n d r → Rounds dir n d r′ → worth r ≡ worth r′
+pub rounds-unique : (dir : Direction) (n d : ℕ) (r r′ : Number) → 0 < d → Rounds dir n d r → Rounds dir n d r′ → worth r ≡ worth r′
 rounds-unique dir n d r r′ h f g = le-antisymm (rounds-mono dir n d n d r r′ h h (le-refl _) f g) (rounds-mono dir n d n d r′ r h h (le-refl _) g f)

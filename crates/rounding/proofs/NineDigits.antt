@@ -7,12 +7,12 @@ use native.Mathlib.Omega.{arith}
 use lib.Pow.{pow-add}
 use lib.Dec.{ltb, lit≤}
 use borrow.Author.Tests.{ltb-true, ltb-false}
-use Rattle.rounding.specs.declared.Biased.{Biased}
-use Rattle.rounding.specs.Biased.{worth, Nine}
+use Rattle.rounding.specs.declared.Number.{Number}
+use Rattle.rounding.specs.Number.{worth, Nine}
 use Rattle.rounding.specs.WorkingForm.{raiseBy, nineOf, NineResult}
 use Rattle.rounding.proofs.Greatest.{pow-ten-pos}
 
-module _ (k : ℕ) (r : Biased) where
+module _ (k : ℕ) (r : Number) where
   raise-worth : k ≤ r .x → worth (raiseBy k r) ≡ worth r
   raise-worth h = cases (ltb (r .m * 10 ^ k) 1000000000)
     where
@@ -44,15 +44,15 @@ module _ (k : ℕ) (r : Biased) where
       cases true = rw z (zero-mul (10 ^ k))
       cases false = z
 
-module _ (r : Biased) (h : r .m < 1000000000) where
+module _ (r : Number) (h : r .m < 1000000000) where
   -- after 4, 4 and 2
-  r₁ : Biased
+  r₁ : Number
   r₁ = raiseBy 4 r
 
-  r₂ : Biased
+  r₂ : Number
   r₂ = raiseBy 4 r₁
 
-  r₃ : Biased
+  r₃ : Number
   r₃ = raiseBy 2 r₂
 
   most₁ : r₁ .m < 1000000000

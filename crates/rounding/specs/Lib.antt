@@ -1,6 +1,6 @@
 pub mod Direction
 pub mod Within
-pub mod Biased
+pub mod Number
 pub mod Round
 pub mod Operations
 pub mod WorkingForm

@@ -1,11 +1,11 @@
-// Numbers of nine digits with a biased exponent, multiplied, divided and added in a direction.
-// These are the operations that decimals rest on. Each asks that its operands are in range:
-// the crate `decimal` tests operands, and a formula's operands are in range by proof.
+// Numbers of nine digits with a biased exponent, multiplied, divided and added in a direction: what everything is worked
+// out on. Each operation is a method by value and asks that its operands are in range: a Decimal's methods, which stand on
+// these, test their operands; a formula's operands are in range by proof.
 ghost use mathlib.Core.Path.{_≡_};
 ghost use Prim.Native.Nat.{_+_, _-_, _*_, _^_, _≤_, _<_};
 ghost use lib.Dec.{leb};
 ghost use Rattle.rounding.specs.Round.{extraOf, divideOf, cutOf};
-ghost use Rattle.rounding.specs.Biased.{Working, InRange, Result, SumResult, rankOf, atMostOf};
+ghost use Rattle.rounding.specs.Number.{Working, InRange, Result, SumResult, rankOf, atMostOf};
 ghost use Rattle.rounding.specs.Operations.{productOf, quotientOf, alignedOf, sumOf};
 ghost use Rattle.rounding.specs.WorkingForm.{raiseBy, nineOf, NineResult};
 ghost use mathlib.Core.Bool.{cond};
@@ -17,7 +17,7 @@ pub enum Direction {
 }
 
 // The number m * 10^(x - 3000). Zero is m = 0, with any x.
-pub struct Biased {
+pub struct Number {
     pub m: u64,
     pub x: u64,
 }
@@ -65,42 +65,20 @@ fn divide(n: u64, d: u64, dir: Direction) -> u64
 
 // q * 10^(x - 3000) cut to nine digits, where q has at most ten. Both quotients are worked out
 // and one is picked, so that no branch depends on the digits.
-fn cut(q: u64, x: u64, dir: Direction) -> Biased
+fn cut(q: u64, x: u64, dir: Direction) -> Number
     requires { ⌜ (q ≤ 9999999990) × (x ≤ 10000) ⌝ }
     ensures { λ r. ⌜ (r ≡ cutOf dir q x) × Result x r ⌝ }
 {
     let tenth = divide(q, 10, dir);
     let short = q < 1_000_000_000;
-    Biased {
+    Number {
         m: pick(short, q, tenth),
         x: pick(short, x, x + 1),
     }
 }
 
-// p * q.
-pub fn product(p: Biased, q: Biased, dir: Direction) -> Biased
-    requires { ⌜ InRange p × InRange q ⌝ }
-    ensures { λ r. ⌜ (r ≡ productOf dir p q) × Result (p .x + q .x - 2992) r ⌝ }
-{
-    let n = p.m * q.m;
-    let x = p.x + q.x - 2992;
-    cut(divide(n, 100_000_000, dir), x, dir)
-}
-
-// p / q; zero where q is zero.
-pub fn quotient(p: Biased, q: Biased, dir: Direction) -> Biased
-    requires { ⌜ InRange p × InRange q ⌝ }
-    ensures { λ r. ⌜ (r ≡ quotientOf dir p q) × Result (p .x + 2991 - q .x) r ⌝ }
-{
-    let some = 100_000_000 <= q.m;
-    let n = pick(some, p.m * 1_000_000_000, 0);
-    let d = pick(some, q.m, 1);
-    let x = p.x + 2991 - q.x;
-    cut(divide(n, d, dir), x, dir)
-}
-
 // The exponent as it counts in an order: zero comes before every other number.
-fn rank(r: Biased) -> u64
+fn rank(r: Number) -> u64
     ensures { λ k. ⌜ k ≡ rankOf r ⌝ }
 {
     let m = r.m;
@@ -110,10 +88,10 @@ fn rank(r: Biased) -> u64
 
 // The number itself if the test holds, else the other one. Its parts are picked one by one, so that no
 // branch depends on the test.
-fn choose(test: bool, p: Biased, q: Biased) -> Biased
+fn choose(test: bool, p: Number, q: Number) -> Number
     ensures { λ r. ⌜ r ≡ cond test p q ⌝ }
 {
-    Biased {
+    Number {
         m: pick(test, p.m, q.m),
         x: pick(test, p.x, q.x),
     }
@@ -121,7 +99,7 @@ fn choose(test: bool, p: Biased, q: Biased) -> Biased
 
 // p + q, where q does not come after p in the order of exponents. A gap of nine places or more
 // leaves of q only that something is there, so it counts as nine.
-fn aligned(p: Biased, q: Biased, dir: Direction) -> Biased
+fn aligned(p: Number, q: Number, dir: Direction) -> Number
     requires { ⌜ InRange p × (InRange q × (rankOf q ≤ rankOf p)) ⌝ }
     ensures { λ r. ⌜ (r ≡ alignedOf dir p q) × Result (p .x) r ⌝ }
 {
@@ -131,50 +109,74 @@ fn aligned(p: Biased, q: Biased, dir: Direction) -> Biased
     cut(p.m + part, p.x, dir)
 }
 
-// p + q. A zero adds nothing: of the terms that are added up here many are absent.
-pub fn sum(p: Biased, q: Biased, dir: Direction) -> Biased
-    requires { ⌜ InRange p × InRange q ⌝ }
-    ensures { λ r. ⌜ (r ≡ sumOf dir p q) × SumResult p q r ⌝ }
-{
-    if q.m == 0 {
-        return p;
-    }
-    let first = rank(q) <= rank(p);
-    let great = choose(first, p, q);
-    let small = choose(first, q, p);
-    aligned(great, small, dir)
-}
-
-// Whether p is worth at most q.
-pub fn at_most(p: Biased, q: Biased) -> bool
-    requires { ⌜ (Working p × (0 < p .x)) × (Working q × (0 < q .x)) ⌝ }
-    ensures { λ r. ⌜ r ≡ atMostOf p q ⌝ }
-{
-    let a = rank(p);
-    let b = rank(q);
-    if a == b {
-        return p.m <= q.m;
-    }
-    a < b
-}
-
 // The number times 10^k, k from 1 to 4, where that leaves at most nine digits.
-fn raised(r: Biased, k: u64) -> Biased
+fn raised(r: Number, k: u64) -> Number
     requires { ⌜ (r .m < 1000000000) × ((k ≤ 4) × (k ≤ r .x)) ⌝ }
     ensures { λ s. ⌜ s ≡ raiseBy k r ⌝ }
 {
     let m = r.m * power(k);
     let x = r.x - k;
-    choose(m < 1_000_000_000, Biased { m, x }, r)
+    choose(m < 1_000_000_000, Number { m, x }, r)
 }
 
-// The same value with nine digits, of a number of one to nine.
-pub fn nine(r: Biased) -> Biased
-    requires { ⌜ (r .m < 1000000000) × (11 ≤ r .x) ⌝ }
-    ensures { λ s. ⌜ (s ≡ nineOf r) × NineResult r s ⌝ }
-{
-    let a = raised(r, 4);
-    let b = raised(a, 4);
-    let c = raised(b, 2);
-    raised(c, 1)
+impl Number {
+    // The product, rounded.
+    pub fn mul(self, other: Number, dir: Direction) -> Number
+        requires { ⌜ InRange self × InRange other ⌝ }
+        ensures { λ r. ⌜ (r ≡ productOf dir self other) × Result (self .x + other .x - 2992) r ⌝ }
+    {
+        let n = self.m * other.m;
+        let x = self.x + other.x - 2992;
+        cut(divide(n, 100_000_000, dir), x, dir)
+    }
+
+    // The quotient, rounded; zero where the divisor is zero.
+    pub fn div(self, other: Number, dir: Direction) -> Number
+        requires { ⌜ InRange self × InRange other ⌝ }
+        ensures { λ r. ⌜ (r ≡ quotientOf dir self other) × Result (self .x + 2991 - other .x) r ⌝ }
+    {
+        let some = 100_000_000 <= other.m;
+        let n = pick(some, self.m * 1_000_000_000, 0);
+        let d = pick(some, other.m, 1);
+        let x = self.x + 2991 - other.x;
+        cut(divide(n, d, dir), x, dir)
+    }
+
+    // The sum, rounded. A zero adds nothing: of the terms that are added up here many are absent.
+    pub fn add(self, other: Number, dir: Direction) -> Number
+        requires { ⌜ InRange self × InRange other ⌝ }
+        ensures { λ r. ⌜ (r ≡ sumOf dir self other) × SumResult self other r ⌝ }
+    {
+        if other.m == 0 {
+            return self;
+        }
+        let first = rank(other) <= rank(self);
+        let great = choose(first, self, other);
+        let small = choose(first, other, self);
+        aligned(great, small, dir)
+    }
+
+    // The same value with nine digits, of a number of one to nine.
+    pub fn working(self) -> Number
+        requires { ⌜ (self .m < 1000000000) × (11 ≤ self .x) ⌝ }
+        ensures { λ s. ⌜ (s ≡ nineOf self) × NineResult self s ⌝ }
+    {
+        let a = raised(self, 4);
+        let b = raised(a, 4);
+        let c = raised(b, 2);
+        raised(c, 1)
+    }
+
+    // Whether this number is worth at most the other.
+    pub fn at_most(self, other: Number) -> bool
+        requires { ⌜ (Working self × (0 < self .x)) × (Working other × (0 < other .x)) ⌝ }
+        ensures { λ r. ⌜ r ≡ atMostOf self other ⌝ }
+    {
+        let a = rank(self);
+        let b = rank(other);
+        if a == b {
+            return self.m <= other.m;
+        }
+        a < b
+    }
 }

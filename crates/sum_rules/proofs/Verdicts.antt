@@ -10,7 +10,7 @@ use lib.ListN.{length}
 use borrow.Author.Tests.{eqb-true, le-leb, leb-true, leb-false}
 use Rattle.rounding.specs.declared.Direction.the-variants.{Down, Up}
 use Rattle.rounding.specs.Within.{Within}
-use Rattle.rounding.specs.Biased.{one}
+use Rattle.rounding.specs.Number.{one}
 use Rattle.rounding.proofs.Distances.{parts}
 use Rattle.decimal.specs.declared.Decimal.{Decimal}
 use Rattle.decimal.specs.Decimal.{valueOf, atMostOf, workingOf}

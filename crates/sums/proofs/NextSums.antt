@@ -7,7 +7,7 @@ use native.Mathlib.Omega.{arith}
 use lib.Dec.{eqb, lit≤}
 use lib.ListN.{length}
 use Rattle.rounding.specs.declared.Direction.the-variants.{Down, Up}
-use Rattle.rounding.specs.declared.Biased.{Biased}
+use Rattle.rounding.specs.declared.Number.{Number}
 use Rattle.rounding.specs.Operations.{productOf, sumOf}
 use Rattle.decimal.specs.Decimal.{workingOf}
 use Rattle.inputs.specs.declared.Scenario.{Scenario}
@@ -27,7 +27,7 @@ use Rattle.sums.specs.Plan.{runningOf, Shared}
 use Rattle.sums.specs.State.{SideReady}
 
 -- the terms of a side in both directions with their sums, and the concentration
-pub record SideTerms (s : Scenario) (medium : ℕ) (r : Contaminant) (side : ℕ) (p q : Side) (a b k : Biased) : Type 0 where
+pub record SideTerms (s : Scenario) (medium : ℕ) (r : Contaminant) (side : ℕ) (p q : Side) (a b k : Number) : Type 0 where
   pub accepted : Accepted s medium r
   pub place : side < 2
   pub above : SideStands Up (valuesOf Up (inputsOf s r)) (pathwaysOf medium (r .class) side) p
@@ -36,7 +36,7 @@ pub record SideTerms (s : Scenario) (medium : ℕ) (r : Contaminant) (side : ℕ
   pub lower : b ≡ sumOf Down (sumOf Down (q .first) (q .second)) (q .third)
   pub c : Stands 28 k (workingOf (r .c))
 
-module _ {s : Scenario} {medium : ℕ} {r : Contaminant} {side : ℕ} {above below : Side} {upper lower c : Biased} (h : SideTerms s medium r side above below upper lower c) where
+module _ {s : Scenario} {medium : ℕ} {r : Contaminant} {side : ℕ} {above below : Side} {upper lower c : Number} (h : SideTerms s medium r side above below upper lower c) where
   abbrev fs : List Formula
   fs = pathwaysOf medium (r .class) side
 
@@ -45,11 +45,11 @@ module _ {s : Scenario} {medium : ℕ} {r : Contaminant} {side : ℕ} {above bel
 
   upper-sum : Stands 602 upper (termSum s medium r Up side)
   unfolding termSum
-  upper-sum = subst (λ (n : Biased). Stands 602 n (termSum s medium r Up side)) (sym (h .upper)) (sum-stands Up _ fs above three (h .above))
+  upper-sum = subst (λ (n : Number). Stands 602 n (termSum s medium r Up side)) (sym (h .upper)) (sum-stands Up _ fs above three (h .above))
 
   lower-sum : Stands 602 lower (termSum s medium r Down side)
   unfolding termSum
-  lower-sum = subst (λ (n : Biased). Stands 602 n (termSum s medium r Down side)) (sym (h .lower)) (sum-stands Down _ fs below three (h .below))
+  lower-sum = subst (λ (n : Number). Stands 602 n (termSum s medium r Down side)) (sym (h .lower)) (sum-stands Down _ fs below three (h .below))
 
   upper-share : Stands 631 (productOf Up c upper) (shareOf s medium r Up side)
   unfolding shareOf

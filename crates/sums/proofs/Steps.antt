@@ -7,7 +7,7 @@ use native.Mathlib.Omega.{arith}
 use lib.Dec.{lit<}
 use borrow.Author.Tests.{eq-eqb}
 use Rattle.rounding.specs.declared.Direction.the-variants.{Down, Up}
-use Rattle.rounding.specs.declared.Biased.{Biased}
+use Rattle.rounding.specs.declared.Number.{Number}
 use Rattle.rounding.specs.Operations.{sumOf}
 use Rattle.decimal.specs.Decimal.{workingOf}
 use Rattle.outcome.specs.Outcome.{numberOf}
@@ -34,7 +34,7 @@ pub inputs-of : {p : Plan} {r : Contaminant} → Workable p r → Accepted (p .s
 inputs-of {p} {r} h = accepted-inputs (p .scenario) (p .medium) r (h .passed .fits) (h .passed .known) (h .contaminant)
 
 -- the sum of a side's upper terms
-abbrev pub UpperSum : Side → Biased → Type 0
+abbrev pub UpperSum : Side → Number → Type 0
 UpperSum s a = a ≡ sumOf Up (sumOf Up (s .first) (s .second)) (s .third)
 
 -- sums of n records leave room for a share
@@ -52,12 +52,12 @@ pub record NextRuns (s : Scenario) (medium : ℕ) (r : Contaminant) (n : ℕ) (x
 
 module _ {p : Plan} {r : Contaminant} {w : Worked} (h : Workable p r) (k : WorkedFor p r w) where
   pub concentration : Input (w .c)
-  concentration = subst (λ (c : Biased). Input c) (sym (k .c)) (stands-own (k .toxicity .c))
+  concentration = subst (λ (c : Number). Input c) (sym (k .c)) (stands-own (k .toxicity .c))
 
   c-stands : Stands 28 (w .c) (workingOf (r .c))
-  c-stands = subst (λ (c : Biased). Stands 28 c (workingOf (r .c))) (sym (k .c)) (k .toxicity .c)
+  c-stands = subst (λ (c : Number). Stands 28 c (workingOf (r .c))) (sym (k .c)) (k .toxicity .c)
 
-  module _ {a b : Biased} (u : UpperSum (w .above .risk) a) (v : UpperSum (w .above .hazard) b) where
+  module _ {a b : Number} (u : UpperSum (w .above .risk) a) (v : UpperSum (w .above .hazard) b) where
     risk-side : SideTerms (p .scenario) (p .medium) r 0 (w .above .risk) (k .below .risk) a (w .risk) (w .c)
     risk-side = record {
       accepted = inputs-of h;

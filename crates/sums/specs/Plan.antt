@@ -4,7 +4,7 @@ use mathlib.Core.Bool.{true, false, not, _||_}
 use Prim.Native.Nat.{ℕ, _≤_, _<_}
 use lib.Dec.{eqb}
 use Rattle.rounding.specs.declared.Direction.the-variants.{Down, Up}
-use Rattle.rounding.specs.declared.Biased.{Biased}
+use Rattle.rounding.specs.declared.Number.{Number}
 use Rattle.rounding.specs.Operations.{productOf, sumOf}
 use Rattle.decimal.specs.Decimal.{decimalOf}
 use Rattle.outcome.specs.declared.Refusal.{Refusal}
@@ -59,7 +59,7 @@ pub record Workable (p : Plan) (r : Contaminant) : Type 0 where
   pub passed : PlanFits p
   pub contaminant : contaminantFits r ≡ true
 
-abbrev pub totalFrom : Side → Biased
+abbrev pub totalFrom : Side → Number
 totalFrom s = sumOf Down (sumOf Down (s .first) (s .second)) (s .third)
 
 pub record WorkedFor (p : Plan) (r : Contaminant) (w : Worked) : Type 0 where
@@ -86,7 +86,7 @@ abbrev pub runningOf : SideRun → Running
 runningOf x = record { lower = decimalOf (x .lower); upper = decimalOf (x .upper); any = x .any }
 
 -- sums that leave room for a share
-pub record NumberSize (r : Biased) : Type 0 where
+pub record NumberSize (r : Number) : Type 0 where
   pub most : r .m < 1000000000
   pub low : 2239 ≤ r .x
   pub high : r .x ≤ 3745
@@ -96,13 +96,13 @@ pub record RunSize (x : SideRun) : Type 0 where
   pub upper : NumberSize (x .upper)
 
 -- one share on each side
-pub record Shared (x : SideRun) (c lower upper : Biased) (y : SideRun) : Type 0 where
+pub record Shared (x : SideRun) (c lower upper : Number) (y : SideRun) : Type 0 where
   pub below : y .lower ≡ sumOf Down (x .lower) (productOf Down c lower)
   pub above : y .upper ≡ sumOf Up (x .upper) (productOf Up c upper)
   pub some : y .any ≡ x .any || not (eqb (upper .m) 0)
 
 -- a and b are the sums of the upper terms
-pub record Addable (x : Runs) (w : Worked) (a b : Biased) : Type 0 where
+pub record Addable (x : Runs) (w : Worked) (a b : Number) : Type 0 where
   pub c : Input (w .c)
   pub risk-run : RunSize (x .risk)
   pub hazard-run : RunSize (x .hazard)
@@ -111,6 +111,6 @@ pub record Addable (x : Runs) (w : Worked) (a b : Biased) : Type 0 where
   pub risk-upper : TotalSize a
   pub hazard-upper : TotalSize b
 
-pub record Added (x : Runs) (w : Worked) (a b : Biased) (y : Runs) : Type 0 where
+pub record Added (x : Runs) (w : Worked) (a b : Number) (y : Runs) : Type 0 where
   pub risk : Shared (x .risk) (w .c) (w .risk) a (y .risk)
   pub hazard : Shared (x .hazard) (w .c) (w .hazard) b (y .hazard)

@@ -10,8 +10,8 @@ use inputs::Contaminant;
 use inputs::contaminant_fits;
 use outcome::Refusal;
 use presence::has_pathway;
-use rounding::Biased;
 use rounding::Direction;
+use rounding::Number;
 use sum_rules::SideSums;
 use sum_rules::SumsAnswer;
 use sum_rules::Verdict;
@@ -67,7 +67,7 @@ pub fn judge(any: bool, lower: Decimal, upper: Decimal, target: Decimal) -> Verd
 pub fn no_runs() -> Runs
     ensures { λ x. ⌜ x ≡ noRuns ⌝ }
 {
-    let zero = Biased { m: 0, x: 2992 };
+    let zero = Number { m: 0, x: 2992 };
     let none = SideRun {
         lower: zero,
         upper: zero,

@@ -5,8 +5,8 @@ use inputs::lacks_factor;
 use inputs::scenario_fits;
 use outcome::Refusal;
 use presence::either;
-use rounding::Biased;
 use rounding::Direction;
+use rounding::Number;
 use terms::pathways::Terms;
 use terms::pathways::total;
 use terms::prepared::Prepared;
@@ -35,15 +35,15 @@ pub struct Plan {
 // A record's upper terms, the sums of its lower terms on each side, and its concentration.
 pub struct Worked {
     pub above: Terms,
-    pub risk: Biased,
-    pub hazard: Biased,
-    pub c: Biased,
+    pub risk: Number,
+    pub hazard: Number,
+    pub c: Number,
 }
 
 // The running sums of a side, as numbers, and whether a contaminant had a pathway there.
 pub struct SideRun {
-    pub lower: Biased,
-    pub upper: Biased,
+    pub lower: Number,
+    pub upper: Number,
     pub any: bool,
 }
 
@@ -123,21 +123,21 @@ pub fn work(p: Plan, r: Contaminant) -> Worked
 }
 
 // One step of the running sums of a side: the concentration times the lower and the upper term sum, added down and up.
-fn add_share(x: SideRun, c: Biased, lower: Biased, upper: Biased) -> SideRun
+fn add_share(x: SideRun, c: Number, lower: Number, upper: Number) -> SideRun
     requires { ⌜ (Input c × RunSize x) × (TotalSize lower × TotalSize upper) ⌝ }
     ensures { λ y. ⌜ Shared x c lower upper y ⌝ }
 {
-    let small = rounding::product(c, lower, Direction::Down);
-    let great = rounding::product(c, upper, Direction::Up);
+    let small = c.mul(lower, Direction::Down);
+    let great = c.mul(upper, Direction::Up);
     SideRun {
-        lower: rounding::sum(x.lower, small, Direction::Down),
-        upper: rounding::sum(x.upper, great, Direction::Up),
+        lower: x.lower.add(small, Direction::Down),
+        upper: x.upper.add(great, Direction::Up),
         any: either(x.any, upper.m != 0),
     }
 }
 
 // The running sums after a record, from its terms and the sums of its upper terms.
-pub fn add_shares(x: Runs, w: Worked, risk: Biased, hazard: Biased) -> Runs
+pub fn add_shares(x: Runs, w: Worked, risk: Number, hazard: Number) -> Runs
     requires { ⌜ Addable x w risk hazard ⌝ }
     ensures { λ y. ⌜ Added x w risk hazard y ⌝ }
 {

@@ -4,13 +4,13 @@ use mathlib.Core.Logic.{inr}
 use Prim.Native.Nat.{ℕ}
 use lib.Dec.{lit<, lit≤}
 use lib.IntN.{ℤ, pos, negsuc}
-use Rattle.rounding.specs.declared.Biased.{Biased}
+use Rattle.rounding.specs.declared.Number.{Number}
 use Rattle.rounding.specs.WorkingForm.{nineOf}
 use Rattle.decimal.specs.declared.Decimal.{Decimal}
 use Rattle.decimal.specs.Decimal.{workingOf}
 use Rattle.terms.specs.Stands.{Stands}
 
-abbrev num : ℕ → ℕ → Biased
+abbrev num : ℕ → ℕ → Number
 num m x = record { m = m; x = x }
 
 abbrev dec : ℕ → ℤ → Decimal

@@ -9,7 +9,7 @@ use lib.Dec.{lit<, lit≤}
 use lib.ListN.{getD}
 use borrow.Author.Tests.{le-ltb}
 use Rattle.rounding.specs.declared.Direction.{Direction}
-use Rattle.rounding.specs.declared.Biased.{Biased}
+use Rattle.rounding.specs.declared.Number.{Number}
 use Rattle.rounding.specs.Direction.{opposite}
 use Rattle.rounding.specs.Operations.{productOf, quotientOf, sumOf}
 use Rattle.decimal.specs.declared.Decimal.{Decimal}
@@ -42,7 +42,7 @@ values-at end n = absent refl
 values-at (next v vs) zero = v
 values-at (next v vs) (suc n) = values-at vs n
 
-input-value : {r : Biased} {d : Decimal} → Stands 28 r d → Value 28 d
+input-value : {r : Number} {d : Decimal} → Stands 28 r d → Value 28 d
 input-value s = stands-value (lit≤ tt) s
 
 toxicity-values : (t : Toxicity) → ReadyToxicity t → Values (toxicityDecimals t)
@@ -90,7 +90,7 @@ module _ (dir : Direction) (p : Prepared) (t : Toxicity) (r : Ready dir p t) whe
   pef-term = term-evaluated dir plain plain-known {k = 5} {w = 190} ((One ∷ []) ÷ (PEF ∷ [])) (record { near = lit≤ tt; wide = lit≤ tt; clean = refl }) (lit≤ tt)
 
   -- what the code adds up
-  unfoldable pub airNumber : Biased
+  unfoldable pub airNumber : Number
   airNumber = sumOf dir (quotientOf dir (record { m = 100000000; x = 2992 }) (t .vf)) (p .«inverse_pef»)
 
   vf-stands : Stands 57 (quotientOf dir (record { m = 100000000; x = 2992 }) (t .vf)) (divOf unit (decimalOf (t .vf)) dir)
@@ -114,12 +114,12 @@ module _ (dir : Direction) (p : Prepared) (t : Toxicity) (r : Ready dir p t) whe
   values-known = fronted (value-most (lit≤ tt) (stands-value (lit≤ tt) air-stands)) (input-values f t (r .prepared .ready) (r .toxicity))
 
 -- a divisor, multiplied in the other direction
-pub stands-turned : (dir back : Direction) → back ≡ opposite dir → {u v w : ℕ} {p q n r : Biased} {a b c : Decimal} → Stands u p a → Stands v q b → Stands w n c → u + v + w ≤ 970 → r ≡ productOf back (productOf back p q) n →
+pub stands-turned : (dir back : Direction) → back ≡ opposite dir → {u v w : ℕ} {p q n r : Number} {a b c : Decimal} → Stands u p a → Stands v q b → Stands w n c → u + v + w ≤ 970 → r ≡ productOf back (productOf back p q) n →
     Stands (u + v + w + 2) r (mulOf (mulOf a b (opposite dir)) c (opposite dir))
 stands-turned dir back e {u} {v} {w} {p} {q} {n} {r} {a} {b} {c} s t z h k = subst (λ (d : Direction). Stands (u + v + w + 2) r (mulOf (mulOf a b d) c d)) e (stands-mul3 back s t z h k)
 
 -- ---- a number that stands for a formula's value stands for its term
-pub side-term : (dir : Direction) (p : Prepared) (t : Toxicity) → Ready dir p t → (medium class side n : ℕ) {w : ℕ} {x : Biased} → w ≤ 600 →
+pub side-term : (dir : Direction) (p : Prepared) (t : Toxicity) → Ready dir p t → (medium class side n : ℕ) {w : ℕ} {x : Number} → w ≤ 600 →
     Stands w x (evaluated (numberValues dir (p .factors) t) dir (getD (pathwaysOf medium class side) n none)) →
     Stands 600 x (termOf (numberValues dir (p .factors) t) dir (getD (pathwaysOf medium class side) n none))
 side-term dir p t r medium class side n h s =

@@ -5,8 +5,8 @@ use mathlib.Core.Logic.{inl, inr}
 use Prim.Native.Nat.{ℕ, _+_, _-_, _≤_}
 use native.Mathlib.Omega.{arith}
 use Rattle.rounding.specs.declared.Direction.{Direction}
-use Rattle.rounding.specs.declared.Biased.{Biased}
-use Rattle.rounding.specs.Biased.{Working}
+use Rattle.rounding.specs.declared.Number.{Number}
+use Rattle.rounding.specs.Number.{Working}
 use Rattle.rounding.specs.Operations.{productOf, quotientOf, sumOf}
 use Rattle.rounding.specs.WorkingForm.{nineOf}
 use Rattle.rounding.proofs.ExactResults.{product-rounds, quotient-zero, quotient-rounds, sum-rounds}
@@ -25,38 +25,38 @@ use Rattle.terms.specs.Prepared.{Middle}
 use Rattle.decimal.proofs.Value.{Value, absent, known}
 
 -- ---- what a number that stands for a decimal can be used for
-pub stands-operand : {w : ℕ} {r : Biased} {d : Decimal} → w ≤ 990 → Stands w r d → Operand r
+pub stands-operand : {w : ℕ} {r : Number} {d : Decimal} → w ≤ 990 → Stands w r d → Operand r
 stands-operand h s = record { working = s .working; range = record { most = s .most; low = omega (arith, s .low); high = omega (arith, s .high) } }
 
-pub stands-middle : {w : ℕ} {r : Biased} {d : Decimal} → w ≤ 300 → Stands w r d → Middle r
+pub stands-middle : {w : ℕ} {r : Number} {d : Decimal} → w ≤ 300 → Stands w r d → Middle r
 stands-middle h s = record { most = s .most; low = omega (arith, s .low); high = omega (arith, s .high) }
 
-pub stands-most : {v w : ℕ} {r : Biased} {d : Decimal} → v ≤ w → Stands v r d → Stands w r d
+pub stands-most : {v w : ℕ} {r : Number} {d : Decimal} → v ≤ w → Stands v r d → Stands w r d
 stands-most h s = record { is = s .is; working = s .working; most = s .most; low = omega (arith, s .low); high = omega (arith, s .high) }
 
 -- another name of the same decimal
-pub stands-is : {w : ℕ} {r : Biased} {d e : Decimal} → d ≡ e → Stands w r d → Stands w r e
+pub stands-is : {w : ℕ} {r : Number} {d e : Decimal} → d ≡ e → Stands w r d → Stands w r e
 stands-is p s = record { is = s .is ∙ p; working = s .working; most = s .most; low = s .low; high = s .high }
 
 -- every number that stands for a decimal stands for its own
-pub stands-own : {w : ℕ} {r : Biased} {d : Decimal} → Stands w r d → Stands w r (decimalOf r)
+pub stands-own : {w : ℕ} {r : Number} {d : Decimal} → Stands w r d → Stands w r (decimalOf r)
 stands-own s = record { is = refl; working = s .working; most = s .most; low = s .low; high = s .high }
 
 -- ---- the three operations
-two-decimals : (op : Decimal → Decimal → Decimal) (p q : Biased) {a b : Decimal} → decimalOf p ≡ a → decimalOf q ≡ b → op (decimalOf p) (decimalOf q) ≡ op a b
+two-decimals : (op : Decimal → Decimal → Decimal) (p q : Number) {a b : Decimal} → decimalOf p ≡ a → decimalOf q ≡ b → op (decimalOf p) (decimalOf q) ≡ op a b
 two-decimals op p q {a} {b} e f = ap (λ (d : Decimal). op d (decimalOf q)) e ∙ ap (λ (d : Decimal). op a d) f
 
-divided : (dir : Direction) (p q : Biased) → Operand p → Operand q → Working q → Working (quotientOf dir p q)
+divided : (dir : Direction) (p q : Number) → Operand p → Operand q → Working q → Working (quotientOf dir p q)
 divided dir p q o u (inl z) = inl (quotient-zero dir p q (o .range) (u .range) z)
 divided dir p q o u (inr n) = quotient-rounds dir p q (o .range) (u .range) (o .working) n .working
 
-module _ (dir : Direction) {v w : ℕ} {p q r : Biased} {a b : Decimal} (s : Stands v p a) (t : Stands w q b) where
+module _ (dir : Direction) {v w : ℕ} {p q r : Number} {a b : Decimal} (s : Stands v p a) (t : Stands w q b) where
   pub stands-mul : v + w ≤ 980 → r ≡ productOf dir p q → Stands (v + w + 1) r (mulOf a b dir)
   stands-mul h e =
       let o = stands-operand (omega arith) s in
       let u = stands-operand (omega arith) t in
       let x = product-result dir p q (o .range) (u .range) in
-      subst (λ (n : Biased). Stands (v + w + 1) n (mulOf a b dir)) (sym e)
+      subst (λ (n : Number). Stands (v + w + 1) n (mulOf a b dir)) (sym e)
       (record {
         is = sym (mul-core dir p q o u) ∙ two-decimals (λ d f. mulOf d f dir) p q (s .is) (t .is);
         working = product-rounds dir p q (o .range) (u .range) (s .working) (t .working) .working;
@@ -70,7 +70,7 @@ module _ (dir : Direction) {v w : ℕ} {p q r : Biased} {a b : Decimal} (s : Sta
       let o = stands-operand (omega arith) s in
       let u = stands-operand (omega arith) t in
       let x = quotient-result dir p q (o .range) (u .range) in
-      subst (λ (n : Biased). Stands (v + w + 1) n (divOf a b dir)) (sym e)
+      subst (λ (n : Number). Stands (v + w + 1) n (divOf a b dir)) (sym e)
       (record {
         is = sym (div-core dir p q o u) ∙ two-decimals (λ d f. divOf d f dir) p q (s .is) (t .is);
         working = divided dir p q o u (t .working);
@@ -84,7 +84,7 @@ module _ (dir : Direction) {v w : ℕ} {p q r : Biased} {a b : Decimal} (s : Sta
       let o = stands-operand (omega arith) s in
       let u = stands-operand (omega arith) t in
       let x = sum-result dir p q (o .range) (u .range) in
-      subst (λ (n : Biased). Stands (v + 1) n (addOf a b dir)) (sym e)
+      subst (λ (n : Number). Stands (v + 1) n (addOf a b dir)) (sym e)
       (record {
         is = sym (add-core dir p q o u) ∙ two-decimals (λ d f. addOf d f dir) p q (s .is) (t .is);
         working = sum-rounds dir p q (o .range) (u .range) (s .working) (t .working) .working;
@@ -94,10 +94,10 @@ module _ (dir : Direction) {v w : ℕ} {p q r : Biased} {a b : Decimal} (s : Sta
       })
 
 -- three factors
-pub stands-mul3 : (dir : Direction) {u v w : ℕ} {p q n r : Biased} {a b c : Decimal} → Stands u p a → Stands v q b → Stands w n c → u + v + w ≤ 970 → r ≡ productOf dir (productOf dir p q) n → Stands (u + v + w + 2) r (mulOf (mulOf a b dir) c dir)
+pub stands-mul3 : (dir : Direction) {u v w : ℕ} {p q n r : Number} {a b c : Decimal} → Stands u p a → Stands v q b → Stands w n c → u + v + w ≤ 970 → r ≡ productOf dir (productOf dir p q) n → Stands (u + v + w + 2) r (mulOf (mulOf a b dir) c dir)
 stands-mul3 dir {u} {v} {w} s t z h e = stands-most (omega arith) (stands-mul dir (stands-mul dir s t (omega arith) refl) z (omega arith) e)
 
-pub stands-value : {w : ℕ} {r : Biased} {d : Decimal} → w ≤ 990 → Stands w r d → Value w d
+pub stands-value : {w : ℕ} {r : Number} {d : Decimal} → w ≤ 990 → Stands w r d → Value w d
 stands-value {w} {r} {d} h s = cases (s .working)
   where
     cases : Working r → Value w d
@@ -105,11 +105,11 @@ stands-value {w} {r} {d} h s = cases (s .working)
     cases (inr n) = known (subst (Sized w) (s .is) (sized-of w r n (s .low) (s .high) h))
 
 -- ---- the number of a valid decimal
-pub number-stands : (d : Decimal) (r : Biased) → validOf d ≡ true → r ≡ nineOf (biasedOf d) → Stands 28 r (workingOf d)
+pub number-stands : (d : Decimal) (r : Number) → validOf d ≡ true → r ≡ nineOf (biasedOf d) → Stands 28 r (workingOf d)
 number-stands d r v e =
     let k = valid-small d v in
     let n = nine-result (biasedOf d) (k .digits) in
-    subst (λ (n : Biased). Stands 28 n (workingOf d)) (sym e)
+    subst (λ (n : Number). Stands 28 n (workingOf d)) (sym e)
     (record {
       is = sym (working-is d (k .digits) (omega (arith, k .low)));
       working = nine-working d (k .digits) (omega (arith, k .low));

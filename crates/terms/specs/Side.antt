@@ -3,7 +3,7 @@ use mathlib.Core.List.{List, [], _∷_, _++_, map}
 use Prim.Native.Nat.{ℕ, _≤_, _<_}
 use lib.ListN.{getD}
 use Rattle.rounding.specs.declared.Direction.{Direction}
-use Rattle.rounding.specs.declared.Biased.{Biased}
+use Rattle.rounding.specs.declared.Number.{Number}
 use Rattle.decimal.specs.declared.Decimal.{Decimal}
 use Rattle.decimal.specs.Decimal.{zeroOf, decimalOf, workingOf}
 use Rattle.terms.specs.declared.numbers.Factors.{Factors}
@@ -38,7 +38,7 @@ pub record Ready (dir : Direction) (p : Prepared) (t : Toxicity) : Type 0 where
   pub toxicity : ReadyToxicity t
 
 -- b is B in a direction
-pub record Air (dir : Direction) (p : Prepared) (t : Toxicity) (b : Biased) : Type 0 where
+pub record Air (dir : Direction) (p : Prepared) (t : Toxicity) (b : Number) : Type 0 where
   pub stands : Stands 58 b (look (numberValues dir (p .factors) t) B)
 
 pub record SideFor (dir : Direction) (f : Factors) (t : Toxicity) (fs : List Formula) (s : Side) : Type 0 where
@@ -55,7 +55,7 @@ noSide = record { first = record { m = 0; x = 2992 }; second = record { m = 0; x
 
 -- ---- the sum of a side's terms
 -- a number whose exponent leaves room for sums and a division
-pub record Wide (r : Biased) : Type 0 where
+pub record Wide (r : Number) : Type 0 where
   pub most : r .m < 1000000000
   pub low : 2392 ≤ r .x
   pub high : r .x ≤ 3592
@@ -66,7 +66,7 @@ pub record WideSide (s : Side) : Type 0 where
   pub third : Wide (s .third)
 
 -- two exponents more at the most
-pub record TotalSize (r : Biased) : Type 0 where
+pub record TotalSize (r : Number) : Type 0 where
   pub most : r .m < 1000000000
   pub low : 2392 ≤ r .x
   pub high : r .x ≤ 3594

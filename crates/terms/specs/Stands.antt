@@ -1,8 +1,8 @@
 -- A number of nine digits that stands for a working decimal, with the range of its exponent: what the code keeps of every value.
 use mathlib.Core.Path.{_≡_}
 use Prim.Native.Nat.{ℕ, _+_, _≤_, _<_}
-use Rattle.rounding.specs.declared.Biased.{Biased}
-use Rattle.rounding.specs.Biased.{Working}
+use Rattle.rounding.specs.declared.Number.{Number}
+use Rattle.rounding.specs.Number.{Working}
 use Rattle.decimal.specs.declared.Decimal.{Decimal}
 use Rattle.decimal.specs.Decimal.{decimalOf, workingOf}
 use Rattle.inputs.specs.declared.Scenario.{Scenario}
@@ -11,7 +11,7 @@ use Rattle.terms.specs.declared.numbers.Factors.{Factors}
 use Rattle.terms.specs.declared.numbers.Toxicity.{Toxicity}
 
 -- r is the decimal d, zero or of nine digits, its exponent within w of -8
-pub record Stands (w : ℕ) (r : Biased) (d : Decimal) : Type 0 where
+pub record Stands (w : ℕ) (r : Number) (d : Decimal) : Type 0 where
   pub is : decimalOf r ≡ d
   pub working : Working r
   pub most : r .m < 1000000000
@@ -43,7 +43,7 @@ pub record ToxicityFor (r : Contaminant) (t : Toxicity) : Type 0 where
   pub c : Stands 28 (t .c) (workingOf (r .c))
 
 -- a number that stands for a working decimal of an input
-abbrev pub Input : Biased → Type 0
+abbrev pub Input : Number → Type 0
 Input r = Stands 28 r (decimalOf r)
 
 pub record ReadyFactors (f : Factors) : Type 0 where

@@ -2,7 +2,7 @@
 use decimal::Decimal;
 use inputs::Contaminant;
 use inputs::Scenario;
-use rounding::Biased;
+use rounding::Number;
 ghost use mathlib.Core.Path.{_≡_};
 ghost use mathlib.Core.Bool.{true};
 ghost use Rattle.decimal.specs.Decimal.{workingOf};
@@ -12,38 +12,38 @@ ghost use Rattle.terms.specs.Stands.{Stands, FactorsFor, ToxicityFor};
 
 // The factors of a scenario.
 pub struct Factors {
-    pub ef: Biased,
-    pub ed: Biased,
-    pub bw: Biased,
-    pub at: Biased,
-    pub ir: Biased,
-    pub ira: Biased,
-    pub pef: Biased,
-    pub et: Biased,
-    pub rf: Biased,
-    pub sa: Biased,
-    pub tr: Biased,
-    pub thi: Biased,
+    pub ef: Number,
+    pub ed: Number,
+    pub bw: Number,
+    pub at: Number,
+    pub ir: Number,
+    pub ira: Number,
+    pub pef: Number,
+    pub et: Number,
+    pub rf: Number,
+    pub sa: Number,
+    pub tr: Number,
+    pub thi: Number,
 }
 
 // The decimals of a contaminant.
 pub struct Toxicity {
-    pub sfo: Biased,
-    pub sfi: Biased,
-    pub sfx: Biased,
-    pub rfdo: Biased,
-    pub rfdi: Biased,
-    pub vf: Biased,
-    pub pc: Biased,
-    pub c: Biased,
+    pub sfo: Number,
+    pub sfi: Number,
+    pub sfx: Number,
+    pub rfdo: Number,
+    pub rfdi: Number,
+    pub vf: Number,
+    pub pc: Number,
+    pub c: Number,
 }
 
 // The number of a decimal that keeps its rule.
-fn number(d: Decimal) -> Biased
+fn number_of(d: Decimal) -> Number
     requires { ⌜ validOf d ≡ true ⌝ }
     ensures { λ r. ⌜ Stands 28 r (workingOf d) ⌝ }
 {
-    rounding::nine(decimal::biased(d))
+    decimal::biased(d).working()
 }
 
 pub fn scenario_numbers(s: Scenario) -> Factors
@@ -51,18 +51,18 @@ pub fn scenario_numbers(s: Scenario) -> Factors
     ensures { λ f. ⌜ FactorsFor s f ⌝ }
 {
     Factors {
-        ef: number(s.ef),
-        ed: number(s.ed),
-        bw: number(s.bw),
-        at: number(s.at),
-        ir: number(s.ir),
-        ira: number(s.ira),
-        pef: number(s.pef),
-        et: number(s.et),
-        rf: number(s.rf),
-        sa: number(s.sa),
-        tr: number(s.tr),
-        thi: number(s.thi),
+        ef: number_of(s.ef),
+        ed: number_of(s.ed),
+        bw: number_of(s.bw),
+        at: number_of(s.at),
+        ir: number_of(s.ir),
+        ira: number_of(s.ira),
+        pef: number_of(s.pef),
+        et: number_of(s.et),
+        rf: number_of(s.rf),
+        sa: number_of(s.sa),
+        tr: number_of(s.tr),
+        thi: number_of(s.thi),
     }
 }
 
@@ -71,13 +71,13 @@ pub fn contaminant_numbers(r: Contaminant) -> Toxicity
     ensures { λ t. ⌜ ToxicityFor r t ⌝ }
 {
     Toxicity {
-        sfo: number(r.sfo),
-        sfi: number(r.sfi),
-        sfx: number(r.sfx),
-        rfdo: number(r.rfdo),
-        rfdi: number(r.rfdi),
-        vf: number(r.vf),
-        pc: number(r.pc),
-        c: number(r.c),
+        sfo: number_of(r.sfo),
+        sfi: number_of(r.sfi),
+        sfx: number_of(r.sfx),
+        rfdo: number_of(r.rfdo),
+        rfdi: number_of(r.rfdi),
+        vf: number_of(r.vf),
+        pc: number_of(r.pc),
+        c: number_of(r.c),
     }
 }

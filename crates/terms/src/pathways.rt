@@ -10,8 +10,8 @@ use crate::prepared::THOUSANDTH;
 use crate::prepared::YEARS_PER_HOUR;
 use crate::prepared::opposite;
 use crate::prepared::product3;
-use rounding::Biased;
 use rounding::Direction;
+use rounding::Number;
 ghost use mathlib.Core.Path.{_≡_};
 ghost use Rattle.rounding.specs.Operations.{sumOf};
 ghost use Rattle.formulas.specs.Formula.{pathwaysOf};
@@ -20,9 +20,9 @@ ghost use Rattle.inputs.specs.Rules.{OneOrTwo};
 
 // The terms of the three pathways of a side.
 pub struct Side {
-    pub first: Biased,
-    pub second: Biased,
-    pub third: Biased,
+    pub first: Number,
+    pub second: Number,
+    pub third: Number,
 }
 
 // The terms of both sides.
@@ -31,18 +31,18 @@ pub struct Terms {
     pub hazard: Side,
 }
 
-const ZERO: Biased = Biased { m: 0, x: 2992 };
+const ZERO: Number = Number { m: 0, x: 2992 };
 
 // B = 1/VF + 1/PEF.
-fn air(p: Prepared, t: Toxicity, dir: Direction) -> Biased
+fn air(p: Prepared, t: Toxicity, dir: Direction) -> Number
     requires { ⌜ Ready dir p t ⌝ }
     ensures { λ b. ⌜ Air dir p t b ⌝ }
 {
-    rounding::sum(rounding::quotient(ONE, t.vf, dir), p.inverse_pef, dir)
+    ONE.div(t.vf, dir).add(p.inverse_pef, dir)
 }
 
 // Soil, chemical, risk: ingestion and inhalation.
-fn soil_chemical_risk(p: Prepared, t: Toxicity, b: Biased, dir: Direction) -> Side
+fn soil_chemical_risk(p: Prepared, t: Toxicity, b: Number, dir: Direction) -> Side
     requires { ⌜ Ready dir p t × Air dir p t b ⌝ }
     ensures { λ s. ⌜ SideFor dir (p .factors) t (pathwaysOf 1 1 0) s ⌝ }
 {
@@ -50,14 +50,14 @@ fn soil_chemical_risk(p: Prepared, t: Toxicity, b: Biased, dir: Direction) -> Si
     let swallowed = product3(product3(t.sfo, f.ir, MILLIONTH, dir), f.ef, f.ed, dir);
     let inhaled = product3(product3(t.sfi, f.ira, b, dir), f.ef, f.ed, dir);
     Side {
-        first: rounding::quotient(swallowed, p.lifetime, dir),
-        second: rounding::quotient(inhaled, p.lifetime, dir),
+        first: swallowed.div(p.lifetime, dir),
+        second: inhaled.div(p.lifetime, dir),
         third: ZERO,
     }
 }
 
 // Soil, chemical, hazard: ingestion and inhalation.
-fn soil_chemical_hazard(p: Prepared, t: Toxicity, b: Biased, dir: Direction) -> Side
+fn soil_chemical_hazard(p: Prepared, t: Toxicity, b: Number, dir: Direction) -> Side
     requires { ⌜ Ready dir p t × Air dir p t b ⌝ }
     ensures { λ s. ⌜ SideFor dir (p .factors) t (pathwaysOf 1 1 1) s ⌝ }
 {
@@ -66,8 +66,8 @@ fn soil_chemical_hazard(p: Prepared, t: Toxicity, b: Biased, dir: Direction) -> 
     let oral = product3(t.rfdo, f.bw, DAYS, back);
     let inhaled = product3(t.rfdi, f.bw, DAYS, back);
     Side {
-        first: rounding::quotient(p.soil_intake, oral, dir),
-        second: rounding::quotient(product3(f.ira, b, f.ef, dir), inhaled, dir),
+        first: p.soil_intake.div(oral, dir),
+        second: product3(f.ira, b, f.ef, dir).div(inhaled, dir),
         third: ZERO,
     }
 }
@@ -78,11 +78,11 @@ fn soil_radionuclide_risk(p: Prepared, t: Toxicity, dir: Direction) -> Side
     ensures { λ s. ⌜ SideFor dir (p .factors) t (pathwaysOf 1 2 0) s ⌝ }
 {
     let f = p.factors;
-    let inhaled = product3(rounding::product(t.sfi, f.ira, dir), f.ef, f.ed, dir);
-    let outdoors = rounding::product(product3(t.sfx, f.et, f.rf, dir), YEARS_PER_HOUR, dir);
+    let inhaled = product3(t.sfi.mul(f.ira, dir), f.ef, f.ed, dir);
+    let outdoors = product3(t.sfx, f.et, f.rf, dir).mul(YEARS_PER_HOUR, dir);
     Side {
         first: product3(product3(t.sfo, f.ir, MILLIONTH, dir), f.ef, f.ed, dir),
-        second: rounding::quotient(inhaled, f.pef, dir),
+        second: inhaled.div(f.pef, dir),
         third: product3(outdoors, f.ef, f.ed, dir),
     }
 }
@@ -93,14 +93,14 @@ fn water_chemical_risk(p: Prepared, t: Toxicity, dir: Direction) -> Side
     ensures { λ s. ⌜ SideFor dir (p .factors) t (pathwaysOf 2 1 0) s ⌝ }
 {
     let f = p.factors;
-    let swallowed = product3(rounding::product(t.sfo, f.ir, dir), f.ef, f.ed, dir);
+    let swallowed = product3(t.sfo.mul(f.ir, dir), f.ef, f.ed, dir);
     let inhaled = product3(product3(t.sfi, f.ira, HALF, dir), f.ef, f.ed, dir);
     let wet = product3(product3(t.sfo, f.sa, t.pc, dir), f.et, THOUSANDTH, dir);
     let absorbed = product3(wet, f.ef, f.ed, dir);
     Side {
-        first: rounding::quotient(swallowed, p.lifetime, dir),
-        second: rounding::quotient(inhaled, p.lifetime, dir),
-        third: rounding::quotient(absorbed, p.lifetime, dir),
+        first: swallowed.div(p.lifetime, dir),
+        second: inhaled.div(p.lifetime, dir),
+        third: absorbed.div(p.lifetime, dir),
     }
 }
 
@@ -115,9 +115,9 @@ fn water_chemical_hazard(p: Prepared, t: Toxicity, dir: Direction) -> Side
     let inhaled = product3(t.rfdi, f.bw, DAYS, back);
     let absorbed = product3(product3(f.sa, t.pc, f.et, dir), THOUSANDTH, f.ef, dir);
     Side {
-        first: rounding::quotient(p.water_intake, oral, dir),
-        second: rounding::quotient(p.vapour_intake, inhaled, dir),
-        third: rounding::quotient(absorbed, oral, dir),
+        first: p.water_intake.div(oral, dir),
+        second: p.vapour_intake.div(inhaled, dir),
+        third: absorbed.div(oral, dir),
     }
 }
 
@@ -128,7 +128,7 @@ fn water_radionuclide_risk(p: Prepared, t: Toxicity, dir: Direction) -> Side
 {
     let f = p.factors;
     Side {
-        first: product3(rounding::product(t.sfo, f.ir, dir), f.ef, f.ed, dir),
+        first: product3(t.sfo.mul(f.ir, dir), f.ef, f.ed, dir),
         second: ZERO,
         third: ZERO,
     }
@@ -177,9 +177,9 @@ pub fn terms_of(p: Prepared, t: Toxicity, medium: u32, class: u32, dir: Directio
 }
 
 // The sum of a side's terms, from the left.
-pub fn total(s: Side, dir: Direction) -> Biased
+pub fn total(s: Side, dir: Direction) -> Number
     requires { ⌜ WideSide s ⌝ }
     ensures { λ r. ⌜ (r ≡ sumOf dir (sumOf dir (s .first) (s .second)) (s .third)) × TotalSize r ⌝ }
 {
-    rounding::sum(rounding::sum(s.first, s.second, dir), s.third, dir)
+    s.first.add(s.second, dir).add(s.third, dir)
 }

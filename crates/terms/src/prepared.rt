@@ -1,7 +1,7 @@
 // What the terms of a scenario have in common: the products that name no decimal of a contaminant, worked out once.
 use crate::numbers::Factors;
-use rounding::Biased;
 use rounding::Direction;
+use rounding::Number;
 ghost use mathlib.Core.Path.{_≡_};
 ghost use Rattle.rounding.specs.Direction.{opposite as oppositeOf};
 ghost use Rattle.rounding.specs.Operations.{productOf};
@@ -9,32 +9,32 @@ ghost use Rattle.terms.specs.Stands.{ReadyFactors};
 ghost use Rattle.terms.specs.Prepared.{Middle, Product3, PreparedFor};
 
 // The constants 1, 10^-6, 10^-3, 0.5, 0.000114 and 365.
-pub const ONE: Biased = Biased {
+pub const ONE: Number = Number {
     m: 100_000_000,
     x: 2992,
 };
 
-pub const MILLIONTH: Biased = Biased {
+pub const MILLIONTH: Number = Number {
     m: 100_000_000,
     x: 2986,
 };
 
-pub const THOUSANDTH: Biased = Biased {
+pub const THOUSANDTH: Number = Number {
     m: 100_000_000,
     x: 2989,
 };
 
-pub const HALF: Biased = Biased {
+pub const HALF: Number = Number {
     m: 500_000_000,
     x: 2991,
 };
 
-pub const YEARS_PER_HOUR: Biased = Biased {
+pub const YEARS_PER_HOUR: Number = Number {
     m: 114_000_000,
     x: 2988,
 };
 
-pub const DAYS: Biased = Biased {
+pub const DAYS: Number = Number {
     m: 365_000_000,
     x: 2994,
 };
@@ -43,11 +43,11 @@ pub const DAYS: Biased = Biased {
 // (rounded the other way); the dividends of hazard by ingestion of soil, of water and by vapour; and 1 / PEF.
 pub struct Prepared {
     pub factors: Factors,
-    pub lifetime: Biased,
-    pub soil_intake: Biased,
-    pub water_intake: Biased,
-    pub vapour_intake: Biased,
-    pub inverse_pef: Biased,
+    pub lifetime: Number,
+    pub soil_intake: Number,
+    pub water_intake: Number,
+    pub vapour_intake: Number,
+    pub inverse_pef: Number,
 }
 
 // The other direction.
@@ -61,11 +61,11 @@ pub fn opposite(dir: Direction) -> Direction
 }
 
 // a * b * c, from the left.
-pub fn product3(a: Biased, b: Biased, c: Biased, dir: Direction) -> Biased
+pub fn product3(a: Number, b: Number, c: Number, dir: Direction) -> Number
     requires { ⌜ Middle a × (Middle b × Middle c) ⌝ }
     ensures { λ r. ⌜ (r ≡ productOf dir (productOf dir a b) c) × Product3 a b c r ⌝ }
 {
-    rounding::product(rounding::product(a, b, dir), c, dir)
+    a.mul(b, dir).mul(c, dir)
 }
 
 pub fn prepare(f: Factors, dir: Direction) -> Prepared
@@ -74,9 +74,9 @@ pub fn prepare(f: Factors, dir: Direction) -> Prepared
 {
     let lifetime = product3(f.bw, f.at, DAYS, opposite(dir));
     let soil_intake = product3(f.ir, MILLIONTH, f.ef, dir);
-    let water_intake = rounding::product(f.ir, f.ef, dir);
+    let water_intake = f.ir.mul(f.ef, dir);
     let vapour_intake = product3(f.ira, HALF, f.ef, dir);
-    let inverse_pef = rounding::quotient(ONE, f.pef, dir);
+    let inverse_pef = ONE.div(f.pef, dir);
     Prepared {
         factors: f,
         lifetime,

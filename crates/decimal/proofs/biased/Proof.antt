@@ -2,7 +2,7 @@
 use mathlib.Core.Path.{ap}
 use Prim.Native.Nat.{ℕ}
 use native.Mathlib.Omega.{arith}
-use Rattle.rounding.specs.declared.Biased.{Biased}
+use Rattle.rounding.specs.declared.Number.{Number}
 use Rattle.decimal.proofs.Bias.{passed}
 use borrow.Author.Needs.{needs}
 use Rattle.decimal.proofs.biased.Statement.{statement}

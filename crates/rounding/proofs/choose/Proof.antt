@@ -2,12 +2,12 @@
 use mathlib.Core.Path.{_≡_, refl, _∙_}
 use mathlib.Core.Bool.{Bool, true, false, cond}
 use Rattle.rounding.proofs.choose.Statement.{statement}
-use Rattle.rounding.specs.declared.Biased.{Biased}
+use Rattle.rounding.specs.declared.Number.{Number}
 use borrow.Author.Needs.{needs}
 use Rattle.rounding.proofs.choose.Tie as tie
 
 -- part by part
-chosen : (test : Bool) (p q : Biased) → _≡_ {A = Biased} (record { m = cond test (p .m) (q .m); x = cond test (p .x) (q .x) }) (cond test p q)
+chosen : (test : Bool) (p q : Number) → _≡_ {A = Number} (record { m = cond test (p .m) (q .m); x = cond test (p .x) (q .x) }) (cond test p q)
 chosen true p q = refl
 chosen false p q = refl
 

@@ -1,6 +1,6 @@
 -- `rounding::cut` meets its contract. Assumes nothing.
 use mathlib.Core.Path.{_≡_, _∙_}
-use Rattle.rounding.specs.declared.Biased.{Biased}
+use Rattle.rounding.specs.declared.Number.{Number}
 use Rattle.rounding.specs.Round.{cutOf}
 use Rattle.rounding.proofs.CodeFacts.{cut-is}
 use Rattle.rounding.proofs.Exponents.{cut-result}

@@ -11,8 +11,8 @@ use Rattle.decimal.proofs.Decimal.div.Tie as tie
 operands-requires : tie.Need-operands-requires
 operands-requires c κs = search needs
 
-quotient-requires : tie.Need-quotient-requires
-quotient-requires c κs =
+div-requires : tie.Need-div-requires
+div-requires c κs =
     let s = c .before .before .args in
     let o = pair-operands (s .self) (s .other) (c .before .operands .result) (c .before .operands .ensures) (c .if1 .taken) in
     (o .0 .range, o .1 .range)
@@ -21,14 +21,14 @@ unbiased-requires : tie.Need-unbiased-requires
 unbiased-requires c κs =
     let s = c .before .before .before .args in
     let o = pair-operands (s .self) (s .other) (c .before .before .operands .result) (c .before .before .operands .ensures) (c .before .if1 .taken) in
-    let r = c .quotient .ensures .1 in
+    let r = c .div .ensures .1 in
     record { digits = r .most; exponent = omega (arith, r .high, o .0 .range .high, o .1 .range .high) }
 
 returns : tie.Need-returns
 unfolding divOf
 returns c =
     let s = c .before .before .before .before .args in
-    pair-result (s .self) (s .other) _ (c .before .before .before .operands .ensures) (quotientOf (s .dir)) (c .unbiased .result) (c .before .before .if1 .taken) (c .unbiased .ensures ∙ ap decimalOf (c .before .quotient .ensures .0))
+    pair-result (s .self) (s .other) _ (c .before .before .before .operands .ensures) (quotientOf (s .dir)) (c .unbiased .result) (c .before .before .if1 .taken) (c .unbiased .ensures ∙ ap decimalOf (c .before .div .ensures .0))
 
 zero-requires : tie.Need-zero-requires
 zero-requires c κs = search needs
@@ -44,7 +44,7 @@ div-spec =
     tie.close
     (tie.spec
     operands-requires
-    quotient-requires
+    div-requires
     unbiased-requires
     returns
     zero-requires

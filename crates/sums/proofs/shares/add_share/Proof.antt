@@ -6,17 +6,17 @@ use borrow.Author.Needs.{needs}
 use Rattle.sums.proofs.shares.add_share.Statement.{statement}
 use Rattle.sums.proofs.shares.add_share.Tie as tie
 
-product-requires : tie.Need-product-requires
-product-requires c κs = search needs
+mul-requires : tie.Need-mul-requires
+mul-requires c κs = search needs
 
-product-requires-2 : tie.Need-product-requires-2
-product-requires-2 c κs = search needs
+mul-requires-2 : tie.Need-mul-requires-2
+mul-requires-2 c κs = search needs
 
-sum-requires : tie.Need-sum-requires
-sum-requires c κs = search needs
+add-requires : tie.Need-add-requires
+add-requires c κs = search needs
 
-sum-requires-2 : tie.Need-sum-requires-2
-sum-requires-2 c κs = search needs
+add-requires-2 : tie.Need-add-requires-2
+add-requires-2 c κs = search needs
 
 either-requires : tie.Need-either-requires
 either-requires c κs = search needs
@@ -25,8 +25,8 @@ returns : tie.Need-returns
 returns c =
     let a = c .before .before .before .before .before .before .args in
     record {
-      below = c .before .before .before .sum .ensures .0 ∙ ap (sumOf Down (a .x .lower)) (c .before .before .before .before .before .product .ensures .0);
-      above = c .before .before .sum2 .ensures .0 ∙ ap (sumOf Up (a .x .upper)) (c .before .before .before .before .product2 .ensures .0);
+      below = c .before .before .before .add .ensures .0 ∙ ap (sumOf Down (a .x .lower)) (c .before .before .before .before .before .mul .ensures .0);
+      above = c .before .before .add2 .ensures .0 ∙ ap (sumOf Up (a .x .upper)) (c .before .before .before .before .mul2 .ensures .0);
       some = c .either .ensures;
     }
 
@@ -34,9 +34,9 @@ pub add-share-spec : {M : Type 1} → statement M
 add-share-spec =
     tie.close
     (tie.spec
-    product-requires
-    product-requires-2
-    sum-requires
-    sum-requires-2
+    mul-requires
+    mul-requires-2
+    add-requires
+    add-requires-2
     either-requires
     returns)

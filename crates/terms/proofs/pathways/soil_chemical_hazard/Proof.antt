@@ -24,8 +24,8 @@ product3-requires-2 c κs =
     let tox = c .before .before .before .pre .0 .toxicity in
     (stands-middle (lit≤ tt) (tox .rfdi), (stands-middle (lit≤ tt) (fac .bw), stands-middle (lit≤ tt) days-stands))
 
-quotient-requires : tie.Need-quotient-requires
-quotient-requires c κs =
+div-requires : tie.Need-div-requires
+div-requires c κs =
     let fac = c .before .before .before .before .pre .0 .prepared .ready in
     let tox = c .before .before .before .before .pre .0 .toxicity in
     let prep = c .before .before .before .before .pre .0 .prepared in
@@ -38,8 +38,8 @@ product3-requires-3 c κs =
     let air = c .before .before .before .before .before .pre .1 in
     (stands-middle (lit≤ tt) (fac .ira), (stands-middle (lit≤ tt) (air .stands), stands-middle (lit≤ tt) (fac .ef)))
 
-quotient-requires-2 : tie.Need-quotient-requires-2
-quotient-requires-2 c κs =
+div-requires-2 : tie.Need-div-requires-2
+div-requires-2 c κs =
     let fac = c .before .before .before .before .before .before .pre .0 .prepared .ready in
     let tox = c .before .before .before .before .before .before .pre .0 .toxicity in
     let air = c .before .before .before .before .before .before .pre .1 in
@@ -55,10 +55,10 @@ returns c =
     let prep = c .before .before .before .before .before .before .before .pre .0 .prepared in
     let air = c .before .before .before .before .before .before .before .pre .1 in
     let s-product3 = stands-turned (c .before .before .before .before .before .before .before .args .dir) (c .before .before .before .before .before .opposite .result) (c .before .before .before .before .before .opposite .ensures) (tox .rfdo) (fac .bw) days-stands (lit≤ tt) (c .before .before .before .before .product3 .ensures .0) in
-    let s-quotient = stands-div (c .before .before .before .before .before .before .before .args .dir) (prep .soil-intake) s-product3 (lit≤ tt) (c .before .before .quotient .ensures .0) in
+    let s-quotient = stands-div (c .before .before .before .before .before .before .before .args .dir) (prep .soil-intake) s-product3 (lit≤ tt) (c .before .before .div .ensures .0) in
     let s-product33 = stands-mul3 (c .before .before .before .before .before .before .before .args .dir) (fac .ira) (air .stands) (fac .ef) (lit≤ tt) (c .before .product33 .ensures .0) in
     let s-product32 = stands-turned (c .before .before .before .before .before .before .before .args .dir) (c .before .before .before .before .before .opposite .result) (c .before .before .before .before .before .opposite .ensures) (tox .rfdi) (fac .bw) days-stands (lit≤ tt) (c .before .before .before .product32 .ensures .0) in
-    let s-quotient2 = stands-div (c .before .before .before .before .before .before .before .args .dir) s-product33 s-product32 (lit≤ tt) (c .quotient2 .ensures .0) in
+    let s-quotient2 = stands-div (c .before .before .before .before .before .before .before .args .dir) s-product33 s-product32 (lit≤ tt) (c .div2 .ensures .0) in
     record { first = side-term (c .before .before .before .before .before .before .before .args .dir) (c .before .before .before .before .before .before .before .args .p) (c .before .before .before .before .before .before .before .args .t) (c .before .before .before .before .before .before .before .pre .0) 1 1 1 0 (lit≤ tt) s-quotient; second = side-term (c .before .before .before .before .before .before .before .args .dir) (c .before .before .before .before .before .before .before .args .p) (c .before .before .before .before .before .before .before .args .t) (c .before .before .before .before .before .before .before .pre .0) 1 1 1 1 (lit≤ tt) s-quotient2; third = side-term (c .before .before .before .before .before .before .before .args .dir) (c .before .before .before .before .before .before .before .args .p) (c .before .before .before .before .before .before .before .args .t) (c .before .before .before .before .before .before .before .pre .0) 1 1 1 2 (lit≤ tt) zero-stands }
 
 pub soil-chemical-hazard-spec : {M : Type 1} → statement M
@@ -68,7 +68,7 @@ soil-chemical-hazard-spec =
     opposite-requires
     product3-requires
     product3-requires-2
-    quotient-requires
+    div-requires
     product3-requires-3
-    quotient-requires-2
+    div-requires-2
     returns)

@@ -36,8 +36,8 @@ product3-requires-4 c κs =
     let s-product33 = stands-mul3 (c .before .before .before .before .args .dir) (tox .sfi) (fac .ira) (air .stands) (lit≤ tt) (c .product33 .ensures .0) in
     (stands-middle (lit≤ tt) s-product33, (stands-middle (lit≤ tt) (fac .ef), stands-middle (lit≤ tt) (fac .ed)))
 
-quotient-requires : tie.Need-quotient-requires
-quotient-requires c κs =
+div-requires : tie.Need-div-requires
+div-requires c κs =
     let fac = c .before .before .before .before .before .pre .0 .prepared .ready in
     let tox = c .before .before .before .before .before .pre .0 .toxicity in
     let prep = c .before .before .before .before .before .pre .0 .prepared in
@@ -45,8 +45,8 @@ quotient-requires c κs =
     let s-product32 = stands-mul3 (c .before .before .before .before .before .args .dir) s-product3 (fac .ef) (fac .ed) (lit≤ tt) (c .before .before .product32 .ensures .0) in
     (stands-operand (lit≤ tt) s-product32 .range, stands-operand (lit≤ tt) (prep .lifetime) .range)
 
-quotient-requires-2 : tie.Need-quotient-requires-2
-quotient-requires-2 c κs =
+div-requires-2 : tie.Need-div-requires-2
+div-requires-2 c κs =
     let fac = c .before .before .before .before .before .before .pre .0 .prepared .ready in
     let tox = c .before .before .before .before .before .before .pre .0 .toxicity in
     let prep = c .before .before .before .before .before .before .pre .0 .prepared in
@@ -64,10 +64,10 @@ returns c =
     let air = c .before .before .before .before .before .before .before .pre .1 in
     let s-product3 = stands-mul3 (c .before .before .before .before .before .before .before .args .dir) (tox .sfo) (fac .ir) millionth-stands (lit≤ tt) (c .before .before .before .before .before .product3 .ensures .0) in
     let s-product32 = stands-mul3 (c .before .before .before .before .before .before .before .args .dir) s-product3 (fac .ef) (fac .ed) (lit≤ tt) (c .before .before .before .before .product32 .ensures .0) in
-    let s-quotient = stands-div (c .before .before .before .before .before .before .before .args .dir) s-product32 (prep .lifetime) (lit≤ tt) (c .before .quotient .ensures .0) in
+    let s-quotient = stands-div (c .before .before .before .before .before .before .before .args .dir) s-product32 (prep .lifetime) (lit≤ tt) (c .before .div .ensures .0) in
     let s-product33 = stands-mul3 (c .before .before .before .before .before .before .before .args .dir) (tox .sfi) (fac .ira) (air .stands) (lit≤ tt) (c .before .before .before .product33 .ensures .0) in
     let s-product34 = stands-mul3 (c .before .before .before .before .before .before .before .args .dir) s-product33 (fac .ef) (fac .ed) (lit≤ tt) (c .before .before .product34 .ensures .0) in
-    let s-quotient2 = stands-div (c .before .before .before .before .before .before .before .args .dir) s-product34 (prep .lifetime) (lit≤ tt) (c .quotient2 .ensures .0) in
+    let s-quotient2 = stands-div (c .before .before .before .before .before .before .before .args .dir) s-product34 (prep .lifetime) (lit≤ tt) (c .div2 .ensures .0) in
     record { first = side-term (c .before .before .before .before .before .before .before .args .dir) (c .before .before .before .before .before .before .before .args .p) (c .before .before .before .before .before .before .before .args .t) (c .before .before .before .before .before .before .before .pre .0) 1 1 0 0 (lit≤ tt) s-quotient; second = side-term (c .before .before .before .before .before .before .before .args .dir) (c .before .before .before .before .before .before .before .args .p) (c .before .before .before .before .before .before .before .args .t) (c .before .before .before .before .before .before .before .pre .0) 1 1 0 1 (lit≤ tt) s-quotient2; third = side-term (c .before .before .before .before .before .before .before .args .dir) (c .before .before .before .before .before .before .before .args .p) (c .before .before .before .before .before .before .before .args .t) (c .before .before .before .before .before .before .before .pre .0) 1 1 0 2 (lit≤ tt) zero-stands }
 
 pub soil-chemical-risk-spec : {M : Type 1} → statement M
@@ -78,6 +78,6 @@ soil-chemical-risk-spec =
     product3-requires-2
     product3-requires-3
     product3-requires-4
-    quotient-requires
-    quotient-requires-2
+    div-requires
+    div-requires-2
     returns)

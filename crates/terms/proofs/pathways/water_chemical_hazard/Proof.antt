@@ -37,24 +37,24 @@ product3-requires-4 c κs =
     let s-product33 = stands-mul3 (c .before .before .before .before .before .args .dir) (fac .sa) (tox .pc) (fac .et) (lit≤ tt) (c .product33 .ensures .0) in
     (stands-middle (lit≤ tt) s-product33, (stands-middle (lit≤ tt) thousandth-stands, stands-middle (lit≤ tt) (fac .ef)))
 
-quotient-requires : tie.Need-quotient-requires
-quotient-requires c κs =
+div-requires : tie.Need-div-requires
+div-requires c κs =
     let fac = c .before .before .before .before .before .before .pre .prepared .ready in
     let tox = c .before .before .before .before .before .before .pre .toxicity in
     let prep = c .before .before .before .before .before .before .pre .prepared in
     let s-product3 = stands-turned (c .before .before .before .before .before .before .args .dir) (c .before .before .before .before .opposite .result) (c .before .before .before .before .opposite .ensures) (tox .rfdo) (fac .bw) days-stands (lit≤ tt) (c .before .before .before .product3 .ensures .0) in
     (stands-operand (lit≤ tt) (prep .water-intake) .range, stands-operand (lit≤ tt) s-product3 .range)
 
-quotient-requires-2 : tie.Need-quotient-requires-2
-quotient-requires-2 c κs =
+div-requires-2 : tie.Need-div-requires-2
+div-requires-2 c κs =
     let fac = c .before .before .before .before .before .before .before .pre .prepared .ready in
     let tox = c .before .before .before .before .before .before .before .pre .toxicity in
     let prep = c .before .before .before .before .before .before .before .pre .prepared in
     let s-product32 = stands-turned (c .before .before .before .before .before .before .before .args .dir) (c .before .before .before .before .before .opposite .result) (c .before .before .before .before .before .opposite .ensures) (tox .rfdi) (fac .bw) days-stands (lit≤ tt) (c .before .before .before .product32 .ensures .0) in
     (stands-operand (lit≤ tt) (prep .vapour-intake) .range, stands-operand (lit≤ tt) s-product32 .range)
 
-quotient-requires-3 : tie.Need-quotient-requires-3
-quotient-requires-3 c κs =
+div-requires-3 : tie.Need-div-requires-3
+div-requires-3 c κs =
     let fac = c .before .before .before .before .before .before .before .before .pre .prepared .ready in
     let tox = c .before .before .before .before .before .before .before .before .pre .toxicity in
     let s-product33 = stands-mul3 (c .before .before .before .before .before .before .before .before .args .dir) (fac .sa) (tox .pc) (fac .et) (lit≤ tt) (c .before .before .before .product33 .ensures .0) in
@@ -69,12 +69,12 @@ returns c =
     let tox = c .before .before .before .before .before .before .before .before .before .pre .toxicity in
     let prep = c .before .before .before .before .before .before .before .before .before .pre .prepared in
     let s-product3 = stands-turned (c .before .before .before .before .before .before .before .before .before .args .dir) (c .before .before .before .before .before .before .before .opposite .result) (c .before .before .before .before .before .before .before .opposite .ensures) (tox .rfdo) (fac .bw) days-stands (lit≤ tt) (c .before .before .before .before .before .before .product3 .ensures .0) in
-    let s-quotient = stands-div (c .before .before .before .before .before .before .before .before .before .args .dir) (prep .water-intake) s-product3 (lit≤ tt) (c .before .before .quotient .ensures .0) in
+    let s-quotient = stands-div (c .before .before .before .before .before .before .before .before .before .args .dir) (prep .water-intake) s-product3 (lit≤ tt) (c .before .before .div .ensures .0) in
     let s-product32 = stands-turned (c .before .before .before .before .before .before .before .before .before .args .dir) (c .before .before .before .before .before .before .before .opposite .result) (c .before .before .before .before .before .before .before .opposite .ensures) (tox .rfdi) (fac .bw) days-stands (lit≤ tt) (c .before .before .before .before .before .product32 .ensures .0) in
-    let s-quotient2 = stands-div (c .before .before .before .before .before .before .before .before .before .args .dir) (prep .vapour-intake) s-product32 (lit≤ tt) (c .before .quotient2 .ensures .0) in
+    let s-quotient2 = stands-div (c .before .before .before .before .before .before .before .before .before .args .dir) (prep .vapour-intake) s-product32 (lit≤ tt) (c .before .div2 .ensures .0) in
     let s-product33 = stands-mul3 (c .before .before .before .before .before .before .before .before .before .args .dir) (fac .sa) (tox .pc) (fac .et) (lit≤ tt) (c .before .before .before .before .product33 .ensures .0) in
     let s-product34 = stands-mul3 (c .before .before .before .before .before .before .before .before .before .args .dir) s-product33 thousandth-stands (fac .ef) (lit≤ tt) (c .before .before .before .product34 .ensures .0) in
-    let s-quotient3 = stands-div (c .before .before .before .before .before .before .before .before .before .args .dir) s-product34 s-product3 (lit≤ tt) (c .quotient3 .ensures .0) in
+    let s-quotient3 = stands-div (c .before .before .before .before .before .before .before .before .before .args .dir) s-product34 s-product3 (lit≤ tt) (c .div3 .ensures .0) in
     record { first = side-term (c .before .before .before .before .before .before .before .before .before .args .dir) (c .before .before .before .before .before .before .before .before .before .args .p) (c .before .before .before .before .before .before .before .before .before .args .t) (c .before .before .before .before .before .before .before .before .before .pre) 2 1 1 0 (lit≤ tt) s-quotient; second = side-term (c .before .before .before .before .before .before .before .before .before .args .dir) (c .before .before .before .before .before .before .before .before .before .args .p) (c .before .before .before .before .before .before .before .before .before .args .t) (c .before .before .before .before .before .before .before .before .before .pre) 2 1 1 1 (lit≤ tt) s-quotient2; third = side-term (c .before .before .before .before .before .before .before .before .before .args .dir) (c .before .before .before .before .before .before .before .before .before .args .p) (c .before .before .before .before .before .before .before .before .before .args .t) (c .before .before .before .before .before .before .before .before .before .pre) 2 1 1 2 (lit≤ tt) s-quotient3 }
 
 pub water-chemical-hazard-spec : {M : Type 1} → statement M
@@ -86,7 +86,7 @@ water-chemical-hazard-spec =
     product3-requires-2
     product3-requires-3
     product3-requires-4
-    quotient-requires
-    quotient-requires-2
-    quotient-requires-3
+    div-requires
+    div-requires-2
+    div-requires-3
     returns)

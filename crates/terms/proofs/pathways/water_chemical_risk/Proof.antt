@@ -8,8 +8,8 @@ use Rattle.terms.proofs.NumberValues.{side-term}
 use Rattle.terms.proofs.pathways.water_chemical_risk.Statement.{statement}
 use Rattle.terms.proofs.pathways.water_chemical_risk.Tie as tie
 
-product-requires : tie.Need-product-requires
-product-requires c κs =
+mul-requires : tie.Need-mul-requires
+mul-requires c κs =
     let fac = c .before .pre .prepared .ready in
     let tox = c .before .pre .toxicity in
     (stands-operand (lit≤ tt) (tox .sfo) .range, stands-operand (lit≤ tt) (fac .ir) .range)
@@ -18,7 +18,7 @@ product3-requires : tie.Need-product3-requires
 product3-requires c κs =
     let fac = c .before .before .pre .prepared .ready in
     let tox = c .before .before .pre .toxicity in
-    let s-product = stands-mul (c .before .before .args .dir) (tox .sfo) (fac .ir) (lit≤ tt) (c .product .ensures .0) in
+    let s-product = stands-mul (c .before .before .args .dir) (tox .sfo) (fac .ir) (lit≤ tt) (c .mul .ensures .0) in
     (stands-middle (lit≤ tt) s-product, (stands-middle (lit≤ tt) (fac .ef), stands-middle (lit≤ tt) (fac .ed)))
 
 product3-requires-2 : tie.Need-product3-requires-2
@@ -55,17 +55,17 @@ product3-requires-6 c κs =
     let s-product35 = stands-mul3 (c .before .before .before .before .before .before .before .args .dir) s-product34 (fac .et) thousandth-stands (lit≤ tt) (c .product35 .ensures .0) in
     (stands-middle (lit≤ tt) s-product35, (stands-middle (lit≤ tt) (fac .ef), stands-middle (lit≤ tt) (fac .ed)))
 
-quotient-requires : tie.Need-quotient-requires
-quotient-requires c κs =
+div-requires : tie.Need-div-requires
+div-requires c κs =
     let fac = c .before .before .before .before .before .before .before .before .pre .prepared .ready in
     let tox = c .before .before .before .before .before .before .before .before .pre .toxicity in
     let prep = c .before .before .before .before .before .before .before .before .pre .prepared in
-    let s-product = stands-mul (c .before .before .before .before .before .before .before .before .args .dir) (tox .sfo) (fac .ir) (lit≤ tt) (c .before .before .before .before .before .before .product .ensures .0) in
+    let s-product = stands-mul (c .before .before .before .before .before .before .before .before .args .dir) (tox .sfo) (fac .ir) (lit≤ tt) (c .before .before .before .before .before .before .mul .ensures .0) in
     let s-product3 = stands-mul3 (c .before .before .before .before .before .before .before .before .args .dir) s-product (fac .ef) (fac .ed) (lit≤ tt) (c .before .before .before .before .before .product3 .ensures .0) in
     (stands-operand (lit≤ tt) s-product3 .range, stands-operand (lit≤ tt) (prep .lifetime) .range)
 
-quotient-requires-2 : tie.Need-quotient-requires-2
-quotient-requires-2 c κs =
+div-requires-2 : tie.Need-div-requires-2
+div-requires-2 c κs =
     let fac = c .before .before .before .before .before .before .before .before .before .pre .prepared .ready in
     let tox = c .before .before .before .before .before .before .before .before .before .pre .toxicity in
     let prep = c .before .before .before .before .before .before .before .before .before .pre .prepared in
@@ -73,8 +73,8 @@ quotient-requires-2 c κs =
     let s-product33 = stands-mul3 (c .before .before .before .before .before .before .before .before .before .args .dir) s-product32 (fac .ef) (fac .ed) (lit≤ tt) (c .before .before .before .before .product33 .ensures .0) in
     (stands-operand (lit≤ tt) s-product33 .range, stands-operand (lit≤ tt) (prep .lifetime) .range)
 
-quotient-requires-3 : tie.Need-quotient-requires-3
-quotient-requires-3 c κs =
+div-requires-3 : tie.Need-div-requires-3
+div-requires-3 c κs =
     let fac = c .before .before .before .before .before .before .before .before .before .before .pre .prepared .ready in
     let tox = c .before .before .before .before .before .before .before .before .before .before .pre .toxicity in
     let prep = c .before .before .before .before .before .before .before .before .before .before .pre .prepared in
@@ -89,30 +89,30 @@ returns c =
     let fac = c .before .before .before .before .before .before .before .before .before .before .before .pre .prepared .ready in
     let tox = c .before .before .before .before .before .before .before .before .before .before .before .pre .toxicity in
     let prep = c .before .before .before .before .before .before .before .before .before .before .before .pre .prepared in
-    let s-product = stands-mul (c .before .before .before .before .before .before .before .before .before .before .before .args .dir) (tox .sfo) (fac .ir) (lit≤ tt) (c .before .before .before .before .before .before .before .before .before .product .ensures .0) in
+    let s-product = stands-mul (c .before .before .before .before .before .before .before .before .before .before .before .args .dir) (tox .sfo) (fac .ir) (lit≤ tt) (c .before .before .before .before .before .before .before .before .before .mul .ensures .0) in
     let s-product3 = stands-mul3 (c .before .before .before .before .before .before .before .before .before .before .before .args .dir) s-product (fac .ef) (fac .ed) (lit≤ tt) (c .before .before .before .before .before .before .before .before .product3 .ensures .0) in
-    let s-quotient = stands-div (c .before .before .before .before .before .before .before .before .before .before .before .args .dir) s-product3 (prep .lifetime) (lit≤ tt) (c .before .before .quotient .ensures .0) in
+    let s-quotient = stands-div (c .before .before .before .before .before .before .before .before .before .before .before .args .dir) s-product3 (prep .lifetime) (lit≤ tt) (c .before .before .div .ensures .0) in
     let s-product32 = stands-mul3 (c .before .before .before .before .before .before .before .before .before .before .before .args .dir) (tox .sfi) (fac .ira) half-stands (lit≤ tt) (c .before .before .before .before .before .before .before .product32 .ensures .0) in
     let s-product33 = stands-mul3 (c .before .before .before .before .before .before .before .before .before .before .before .args .dir) s-product32 (fac .ef) (fac .ed) (lit≤ tt) (c .before .before .before .before .before .before .product33 .ensures .0) in
-    let s-quotient2 = stands-div (c .before .before .before .before .before .before .before .before .before .before .before .args .dir) s-product33 (prep .lifetime) (lit≤ tt) (c .before .quotient2 .ensures .0) in
+    let s-quotient2 = stands-div (c .before .before .before .before .before .before .before .before .before .before .before .args .dir) s-product33 (prep .lifetime) (lit≤ tt) (c .before .div2 .ensures .0) in
     let s-product34 = stands-mul3 (c .before .before .before .before .before .before .before .before .before .before .before .args .dir) (tox .sfo) (fac .sa) (tox .pc) (lit≤ tt) (c .before .before .before .before .before .product34 .ensures .0) in
     let s-product35 = stands-mul3 (c .before .before .before .before .before .before .before .before .before .before .before .args .dir) s-product34 (fac .et) thousandth-stands (lit≤ tt) (c .before .before .before .before .product35 .ensures .0) in
     let s-product36 = stands-mul3 (c .before .before .before .before .before .before .before .before .before .before .before .args .dir) s-product35 (fac .ef) (fac .ed) (lit≤ tt) (c .before .before .before .product36 .ensures .0) in
-    let s-quotient3 = stands-div (c .before .before .before .before .before .before .before .before .before .before .before .args .dir) s-product36 (prep .lifetime) (lit≤ tt) (c .quotient3 .ensures .0) in
+    let s-quotient3 = stands-div (c .before .before .before .before .before .before .before .before .before .before .before .args .dir) s-product36 (prep .lifetime) (lit≤ tt) (c .div3 .ensures .0) in
     record { first = side-term (c .before .before .before .before .before .before .before .before .before .before .before .args .dir) (c .before .before .before .before .before .before .before .before .before .before .before .args .p) (c .before .before .before .before .before .before .before .before .before .before .before .args .t) (c .before .before .before .before .before .before .before .before .before .before .before .pre) 2 1 0 0 (lit≤ tt) s-quotient; second = side-term (c .before .before .before .before .before .before .before .before .before .before .before .args .dir) (c .before .before .before .before .before .before .before .before .before .before .before .args .p) (c .before .before .before .before .before .before .before .before .before .before .before .args .t) (c .before .before .before .before .before .before .before .before .before .before .before .pre) 2 1 0 1 (lit≤ tt) s-quotient2; third = side-term (c .before .before .before .before .before .before .before .before .before .before .before .args .dir) (c .before .before .before .before .before .before .before .before .before .before .before .args .p) (c .before .before .before .before .before .before .before .before .before .before .before .args .t) (c .before .before .before .before .before .before .before .before .before .before .before .pre) 2 1 0 2 (lit≤ tt) s-quotient3 }
 
 pub water-chemical-risk-spec : {M : Type 1} → statement M
 water-chemical-risk-spec =
     tie.close
     (tie.spec
-    product-requires
+    mul-requires
     product3-requires
     product3-requires-2
     product3-requires-3
     product3-requires-4
     product3-requires-5
     product3-requires-6
-    quotient-requires
-    quotient-requires-2
-    quotient-requires-3
+    div-requires
+    div-requires-2
+    div-requires-3
     returns)

@@ -21,14 +21,14 @@ product3-requires c κs = search needs
 product3-requires-2 : tie.Need-product3-requires-2
 product3-requires-2 c κs = search needs
 
-product-requires : tie.Need-product-requires
-product-requires c κs = search needs
+mul-requires : tie.Need-mul-requires
+mul-requires c κs = search needs
 
 product3-requires-3 : tie.Need-product3-requires-3
 product3-requires-3 c κs = search needs
 
-quotient-requires : tie.Need-quotient-requires
-quotient-requires c κs = search needs
+div-requires : tie.Need-div-requires
+div-requires c κs = search needs
 
 returns : tie.Need-returns
 returns c =
@@ -39,9 +39,9 @@ returns c =
       ready = s;
       lifetime = rw (← (c .before .before .before .before .before .opposite .ensures)) (stands-mul3 (c .before .before .before .before .before .opposite .result) (s .bw) (s .at) days-stands (lit≤ tt) (c .before .before .before .before .product3 .ensures .0));
       soil-intake = stands-mul3 dir (s .ir) millionth-stands (s .ef) (lit≤ tt) (c .before .before .before .product32 .ensures .0);
-      water-intake = stands-mul dir (s .ir) (s .ef) (lit≤ tt) (c .before .before .product .ensures .0);
+      water-intake = stands-mul dir (s .ir) (s .ef) (lit≤ tt) (c .before .before .mul .ensures .0);
       vapour-intake = stands-mul3 dir (s .ira) half-stands (s .ef) (lit≤ tt) (c .before .product33 .ensures .0);
-      inverse-pef = stands-div dir unit-stands (s .pef) (lit≤ tt) (c .quotient .ensures .0);
+      inverse-pef = stands-div dir unit-stands (s .pef) (lit≤ tt) (c .div .ensures .0);
     }
 
 pub prepare-spec : {M : Type 1} → statement M
@@ -51,7 +51,7 @@ prepare-spec =
     opposite-requires
     product3-requires
     product3-requires-2
-    product-requires
+    mul-requires
     product3-requires-3
-    quotient-requires
+    div-requires
     returns)

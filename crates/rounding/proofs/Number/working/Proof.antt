@@ -1,16 +1,16 @@
--- `rounding::nine` meets its contract. Assumes nothing.
+-- `rounding::Number::working` meets its contract. Assumes nothing.
 use mathlib.Core.Path.{_≡_}
 use Prim.Native.Nat.{ℕ, _+_, _≤_, _<_}
 use native.Mathlib.Omega.{arith}
 use lib.Dec.{lit≤}
-use Rattle.rounding.specs.declared.Biased.{Biased}
+use Rattle.rounding.specs.declared.Number.{Number}
 use Rattle.rounding.specs.WorkingForm.{raiseBy, nineOf}
 use Rattle.rounding.proofs.NineDigits.{raise-bounds, nine-result}
 use borrow.Author.Needs.{needs}
-use Rattle.rounding.proofs.nine.Statement.{statement}
-use Rattle.rounding.proofs.nine.Tie as tie
+use Rattle.rounding.proofs.Number.working.Statement.{statement}
+use Rattle.rounding.proofs.Number.working.Tie as tie
 
-bounds : (k : ℕ) (r s : Biased) → s ≡ raiseBy k r → r .m < 1000000000 → (s .m < 1000000000) × (r .x ≤ s .x + k) × (s .x ≤ r .x)
+bounds : (k : ℕ) (r s : Number) → s ≡ raiseBy k r → r .m < 1000000000 → (s .m < 1000000000) × (r .x ≤ s .x + k) × (s .x ≤ r .x)
 bounds k r s e h = rw e (raise-bounds k r h)
 
 raised-requires : tie.Need-raised-requires
@@ -38,10 +38,10 @@ returns : tie.Need-returns
 unfolding nineOf
 returns c =
     let s = c .before .before .before .before in
-    let e : c .raised4 .result ≡ nineOf (s .args .r) = cc in
-    (e, rw e (nine-result (s .args .r) (s .pre .0)))
+    let e : c .raised4 .result ≡ nineOf (s .args .self) = cc in
+    (e, rw e (nine-result (s .args .self) (s .pre .0)))
 
-pub nine-spec : {M : Type 1} → statement M
-nine-spec =
+pub working-spec : {M : Type 1} → statement M
+working-spec =
     tie.close
     (tie.spec raised-requires raised-requires-2 raised-requires-3 raised-requires-4 returns)
