@@ -1,8 +1,8 @@
--- A header or a contaminant that is found has passed every test, and a refusal never has number 0. Assumes nothing.
+-- A header or a contaminant that is found has passed every test, and a refused block has a number from 1 to 7. Assumes nothing.
 use mathlib.Core.Path.{_≡_, refl, sym, ap, _∙_, subst}
 use mathlib.Core.List.{List}
 use mathlib.Core.Bool.{Bool, true, false, _&&_, not, cond}
-use Prim.Native.Nat.{ℕ, _<_}
+use Prim.Native.Nat.{ℕ, _≤_, _<_}
 use native.Mathlib.Omega.{arith}
 use lib.ListN.{length}
 use lib.Dec.{eqb, leb}
@@ -15,10 +15,12 @@ use Rattle.inputs.specs.declared.Contaminant.{Contaminant}
 use Rattle.inputs.specs.Rules.{scenarioFits, contaminantFits, lacksFactor}
 use Rattle.inputs.proofs.Tests.{and-split}
 use Rattle.block_rules.specs.declared.Header.{Header}
+use Rattle.block_rules.specs.declared.HeaderRead.{HeaderRead}
 use Rattle.block_rules.specs.declared.HeaderRead.the-variants as H
+use Rattle.block_rules.specs.declared.ContaminantRead.{ContaminantRead}
 use Rattle.block_rules.specs.declared.ContaminantRead.the-variants as C
 use Rattle.block_rules.specs.Rules.{countOk}
-use Rattle.block_rules.specs.Reading.{scenarioAt, headerAt, headerUnused, contaminantAt, contaminantUnused, soundAt, headerRead, contaminantRead}
+use Rattle.block_rules.specs.Reading.{scenarioAt, headerAt, headerUnused, contaminantAt, contaminantUnused, soundAt, headerRead, contaminantRead, headerNumber, headerValue, contaminantNumber, contaminantValue}
 
 -- where a test's answer is not what was sent back, the test was false
 pub passed : {A : Type 0} (t : Bool) (x y z : A) → (x ≡ z → ⊥) → cond t x y ≡ z → (t ≡ false) × (y ≡ z)
@@ -76,11 +78,16 @@ header-facts b blocks h e =
       factors = ap (λ (x : Header). lacksFactor (x .scenario)) (sym same) ∙ e₆ .0;
     }
 
--- ---- a refusal never has number 0
-nonzero : {A : Type 0} (sent : Refusal → A) → ((x y : Refusal) → sent x ≡ sent y → x ≡ y) → (t : Bool) (x : Refusal) (rest : A) → (numberOf x ≡ 0 → ⊥)
-    → ((y : Refusal) → rest ≡ sent y → numberOf y ≡ 0 → ⊥) → (y : Refusal) → cond t (sent x) rest ≡ sent y → numberOf y ≡ 0 → ⊥
-nonzero sent same true x rest n k y e z = n (ap numberOf (same x y e) ∙ z)
-nonzero sent same false x rest n k y e z = k y e z
+-- ---- a refusal of a block: one of 1 to 7
+pub record Sent (n : Refusal) : Type 0 where
+  pub least : 1 ≤ numberOf n
+  pub most : numberOf n ≤ 7
+
+-- the refusal of the first test that holds, or one of the rest
+sent-first : {A : Type 0} (refusal : Refusal → A) → ((x y : Refusal) → refusal x ≡ refusal y → x ≡ y) → (t : Bool) (x : Refusal) (rest : A) → Sent x →
+    ((y : Refusal) → rest ≡ refusal y → Sent y) → (y : Refusal) → cond t (refusal x) rest ≡ refusal y → Sent y
+sent-first refusal same true x rest n k y e = subst Sent (same x y e) n
+sent-first refusal same false x rest n k y e = k y e
 
 same-contaminant : (x y : Refusal) → C.Refused x ≡ C.Refused y → x ≡ y
 same-contaminant x y e = cc
@@ -88,26 +95,51 @@ same-contaminant x y e = cc
 same-header : (x y : Refusal) → H.Refused x ≡ H.Refused y → x ≡ y
 same-header x y e = cc
 
-pub contaminant-refused : (b : List ℕ) (place previous : ℕ) (y : Refusal) → contaminantRead b place previous ≡ C.Refused y → numberOf y ≡ 0 → ⊥
+pub contaminant-sent : (b : List ℕ) (place previous : ℕ) (y : Refusal) → contaminantRead b place previous ≡ C.Refused y → Sent y
 unfolding contaminantRead
-contaminant-refused b place previous =
-    nonzero C.Refused same-contaminant (not (eqb (length b) 512)) Length _ (λ z. omega arith)
-    (nonzero C.Refused same-contaminant (not (soundAt b place)) Check _ (λ z. omega arith)
-    (nonzero C.Refused same-contaminant (not (eqb (wordAt b 0) 2)) Kind _ (λ z. omega arith)
-    (nonzero C.Refused same-contaminant (not (contaminantFits (contaminantAt b 8) && contaminantUnused b 8)) Field _ (λ z. omega arith)
-    (nonzero C.Refused same-contaminant (leb (wordAt b 12) previous) Order (C.Found (contaminantAt b 8)) (λ z. omega arith)
-    (λ y e z. other y (contaminantAt b 8) (sym e))))))
+contaminant-sent b place previous =
+    let by = sent-first C.Refused same-contaminant in
+    by (not (eqb (length b) 512)) Length _ (record { least = omega arith; most = omega arith })
+    (by (not (soundAt b place)) Check _ (record { least = omega arith; most = omega arith })
+    (by (not (eqb (wordAt b 0) 2)) Kind _ (record { least = omega arith; most = omega arith })
+    (by (not (contaminantFits (contaminantAt b 8) && contaminantUnused b 8)) Field _ (record { least = omega arith; most = omega arith })
+    (by (leb (wordAt b 12) previous) Order (C.Found (contaminantAt b 8)) (record { least = omega arith; most = omega arith })
+    (λ y e. absurd (other y (contaminantAt b 8) (sym e)))))))
+
+pub header-sent : (b : List ℕ) (blocks : ℕ) (y : Refusal) → headerRead b blocks ≡ H.Refused y → Sent y
+unfolding headerRead
+header-sent b blocks =
+    let by = sent-first H.Refused same-header in
+    by (not (eqb (length b) 512)) Length _ (record { least = omega arith; most = omega arith })
+    (by (not (soundAt b 0)) Check _ (record { least = omega arith; most = omega arith })
+    (by (not (eqb (wordAt b 0) 1)) Kind _ (record { least = omega arith; most = omega arith })
+    (by (not (scenarioFits (scenarioAt b 16) (wordAt b 8) && headerUnused b 8)) Field _ (record { least = omega arith; most = omega arith })
+    (by (not (countOk (wordAt b 12) blocks)) Count _ (record { least = omega arith; most = omega arith })
+    (by (lacksFactor (scenarioAt b 16)) Factor (H.Found (headerAt b 8)) (record { least = omega arith; most = omega arith })
+    (λ y e. absurd (not-header y (headerAt b 8) (sym e))))))))
+
+-- so its number is never 0
+pub contaminant-refused : (b : List ℕ) (place previous : ℕ) (y : Refusal) → contaminantRead b place previous ≡ C.Refused y → numberOf y ≡ 0 → ⊥
+contaminant-refused b place previous y e z = omega (arith, contaminant-sent b place previous y e .least)
 
 pub header-refused : (b : List ℕ) (blocks : ℕ) (y : Refusal) → headerRead b blocks ≡ H.Refused y → numberOf y ≡ 0 → ⊥
-unfolding headerRead
-header-refused b blocks =
-    nonzero H.Refused same-header (not (eqb (length b) 512)) Length _ (λ z. omega arith)
-    (nonzero H.Refused same-header (not (soundAt b 0)) Check _ (λ z. omega arith)
-    (nonzero H.Refused same-header (not (eqb (wordAt b 0) 1)) Kind _ (λ z. omega arith)
-    (nonzero H.Refused same-header (not (scenarioFits (scenarioAt b 16) (wordAt b 8) && headerUnused b 8)) Field _ (λ z. omega arith)
-    (nonzero H.Refused same-header (not (countOk (wordAt b 12) blocks)) Count _ (λ z. omega arith)
-    (nonzero H.Refused same-header (lacksFactor (scenarioAt b 16)) Factor (H.Found (headerAt b 8)) (λ z. omega arith)
-    (λ y e z. not-header y (headerAt b 8) (sym e)))))))
+header-refused b blocks y e z = omega (arith, header-sent b blocks y e .least)
+
+-- ---- the facts by the paper's number: a block with number 0 has passed every test, and its value is what it holds
+pub contaminant-accepted : (b : List ℕ) (place previous : ℕ) → contaminantNumber (contaminantRead b place previous) ≡ 0 →
+    ContaminantFacts b previous (contaminantValue (contaminantRead b place previous))
+contaminant-accepted b place previous = cases (contaminantRead b place previous) refl
+  where
+    cases : (x : ContaminantRead) → contaminantRead b place previous ≡ x → contaminantNumber x ≡ 0 → ContaminantFacts b previous (contaminantValue x)
+    cases (C.Found r) e z = contaminant-facts b place previous r e
+    cases (C.Refused y) e z = absurd (contaminant-refused b place previous y e z)
+
+pub header-accepted : (b : List ℕ) (blocks : ℕ) → headerNumber (headerRead b blocks) ≡ 0 → HeaderFacts b blocks (headerValue (headerRead b blocks))
+header-accepted b blocks = cases (headerRead b blocks) refl
+  where
+    cases : (x : HeaderRead) → headerRead b blocks ≡ x → headerNumber x ≡ 0 → HeaderFacts b blocks (headerValue x)
+    cases (H.Found h) e z = header-facts b blocks h e
+    cases (H.Refused y) e z = absurd (header-refused b blocks y e z)
 
 -- what has another number is not accepted
 pub refused : (a : Refusal) → (numberOf a ≡ 0 → ⊥) → a ≡ Accepted → ⊥

@@ -1,5 +1,5 @@
 -- Result and summary blocks read back: the same words, and decimals with the same m and the same e. Assumes nothing.
-use mathlib.Core.Path.{_≡_, refl, ap, _∙_}
+use mathlib.Core.Path.{_≡_, refl, sym, ap, subst, _∙_}
 use mathlib.Core.List.{List, _++_, append-assoc}
 use mathlib.Core.Bool.{true}
 use Prim.Native.Nat.{ℕ, _+_, _<_, _%_}
@@ -16,19 +16,21 @@ use Rattle.block_rules.specs.Reading.{soundAt}
 use Rattle.guideline_rules.specs.declared.SideGuidelines.{SideGuidelines}
 use Rattle.sum_rules.specs.declared.SideSums.{SideSums}
 use Rattle.sum_rules.specs.declared.Verdict.{Verdict}
-use Rattle.sum_rules.specs.declared.Verdict.the-variants.{Unset, Within, Above, Undecided, NoPathway}
 use Rattle.sum_rules.specs.Verdict.{verdictNumber}
+use Rattle.sum_rules.proofs.AnswerBounds.{verdict-most}
 use Rattle.block_rules.specs.Layouts.{lastWord, bodyOf, guidelineDecimals, resultBlock, summaryDecimals, summaryBlock}
 use Rattle.block_rules.proofs.ReadBack.{zeros-long, kind-back, first-back, second-back, decimals-back, unused-back, ending-back, block-length, block-sum, sound-back}
 
--- ---- kind 3: what stands in the block b at place p, of class q and id r
+-- ---- kind 3: what stands in the block b at place p, of class q and id r. Every e is from -999 to 999. An id is a word wherever it was read
+-- from bytes
 pub record ResultRead (b : List ℕ) (p q r : ℕ) (risk hazard : SideGuidelines) : Type 0 where
   pub long : length b ≡ 512
   pub kind : wordAt b 0 ≡ 3
   pub sound : soundAt b p ≡ true
   pub class : wordAt b 8 ≡ q
-  pub id : wordAt b 12 ≡ r
+  pub id : r < 4294967296 → wordAt b 12 ≡ r
   pub decimals : decimalsAt b 16 8 ≡ guidelineDecimals risk hazard
+  pub in-range : (n : ℕ) → InField (getD (decimalsAt b 16 8) n zeroOf)
   pub unused : unusedZero b 16 8 ≡ true
   pub rest : zeros b 80 428 ≡ true
 
@@ -45,26 +47,32 @@ module _ (place class id : ℕ) (risk hazard : SideGuidelines) where
   unfolding resultBlock
   result-sum = block-sum 3 place class id gs (replicate 428 0) (zeros-long 8 428 refl)
 
-  pub result-back : place < 4294967296 → class < 4294967296 → id < 4294967296
+  read-decimals : ((n : ℕ) → InField (getD (guidelineDecimals risk hazard) n zeroOf)) → decimalsAt (resultBlock place class id risk hazard) 16 8 ≡ gs
+  unfolding resultBlock
+  read-decimals f = decimals-back 3 place class id gs (replicate 428 0) f
+
+  pub result-back : place < 4294967296 → class < 4294967296
       → ((n : ℕ) → InField (getD (guidelineDecimals risk hazard) n zeroOf)) → ResultRead (resultBlock place class id risk hazard) place class id risk hazard
   unfolding resultBlock
-  result-back p q r f = record {
+  result-back p q f = record {
     long = result-length;
     kind = kind-back 3 place class id gs (replicate 428 0) (omega arith);
     sound = sound-back 3 place class id gs (replicate 428 0) (zeros-long 8 428 refl) p;
     class = first-back 3 place class id gs (replicate 428 0) q;
-    id = second-back 3 place class id gs (replicate 428 0) r;
-    decimals = decimals-back 3 place class id gs (replicate 428 0) f;
+    id = second-back 3 place class id gs (replicate 428 0);
+    decimals = read-decimals f;
+    in-range = λ n. subst (λ (l : List Decimal). InField (getD l n zeroOf)) (sym (read-decimals f)) (f n);
     unused = unused-back 3 place class id gs (replicate 428 0);
     rest = zeros-rest (resultBlock place class id risk hazard) _ 80 428 428 (ending-back 3 place class id gs (replicate 428 0) 64 refl) (omega arith);
   }
 
--- ---- kind 4: what stands in the block b
+-- ---- kind 4: what stands in the block b. Every e is from -999 to 999
 pub record SummaryRead (b : List ℕ) (risk hazard : SideSums) : Type 0 where
   pub long : length b ≡ 512
   pub kind : wordAt b 0 ≡ 4
   pub sound : soundAt b 0 ≡ true
   pub decimals : decimalsAt b 16 4 ≡ summaryDecimals risk hazard
+  pub in-range : (n : ℕ) → InField (getD (decimalsAt b 16 4) n zeroOf)
   pub unused : unusedZero b 16 4 ≡ true
   pub risk-verdict : wordAt b 48 ≡ verdictNumber (risk .verdict)
   pub hazard-verdict : wordAt b 52 ≡ verdictNumber (hazard .verdict)
@@ -73,11 +81,7 @@ pub record SummaryRead (b : List ℕ) (risk hazard : SideSums) : Type 0 where
 
 -- a verdict's number is a word
 verdict-word : (v : Verdict) → verdictNumber v < 4294967296
-verdict-word Unset = omega arith
-verdict-word Within = omega arith
-verdict-word Above = omega arith
-verdict-word Undecided = omega arith
-verdict-word NoPathway = omega arith
+verdict-word v = omega (arith, verdict-most v)
 
 module _ (risk hazard : SideSums) where
   abbrev block : List ℕ
@@ -120,13 +124,18 @@ module _ (risk hazard : SideSums) where
   at56 : drop 56 block ≡ replicate 452 0 ++ last
   at56 = rest-next block v (replicate 452 0 ++ last) 52 4 at52 (le4-length (verdictNumber (hazard .verdict)))
 
+  sums-read : ((n : ℕ) → InField (getD (summaryDecimals risk hazard) n zeroOf)) → decimalsAt (summaryBlock risk hazard) 16 4 ≡ ds
+  unfolding summaryBlock
+  sums-read f = decimals-back 4 0 0 0 ds after f
+
   pub summary-back : ((n : ℕ) → InField (getD (summaryDecimals risk hazard) n zeroOf)) → SummaryRead (summaryBlock risk hazard) risk hazard
   unfolding summaryBlock
   summary-back f = record {
     long = summary-length;
     kind = kind-back 4 0 0 0 ds after (omega arith);
     sound = sound-back 4 0 0 0 ds after after-long (omega arith);
-    decimals = decimals-back 4 0 0 0 ds after f;
+    decimals = sums-read f;
+    in-range = λ n. subst (λ (l : List Decimal). InField (getD l n zeroOf)) (sym (sums-read f)) (f n);
     unused = unused-back 4 0 0 0 ds after;
     risk-verdict = word-rest block (v ++ (replicate 452 0 ++ last)) 48 (verdictNumber (risk .verdict)) at48 (verdict-word (risk .verdict));
     hazard-verdict = word-rest block (replicate 452 0 ++ last) 52 (verdictNumber (hazard .verdict)) at52 (verdict-word (hazard .verdict));

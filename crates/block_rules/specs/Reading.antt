@@ -5,10 +5,12 @@ use mathlib.Core.Bool.{Bool, _&&_, not, cond}
 use lib.ListN.{length}
 use lib.Dec.{eqb, leb}
 use Rattle.outcome.specs.declared.Refusal.the-variants.{Length, Check, Kind, Field, Count, Factor, Order}
+use Rattle.outcome.specs.Outcome.{numberOf}
 use Rattle.words.specs.Words.{wordAt, wordSum, zeros}
 use Rattle.fields.specs.Fields.{decimalAt, unusedZero}
 use Rattle.inputs.specs.declared.Scenario.{Scenario}
 use Rattle.inputs.specs.declared.Contaminant.{Contaminant}
+use Rattle.inputs.specs.BuiltIn.{blank, noContaminant}
 use Rattle.inputs.specs.Rules.{scenarioFits, contaminantFits, lacksFactor}
 use Rattle.block_rules.specs.declared.Header.{Header}
 use Rattle.block_rules.specs.declared.HeaderRead.{HeaderRead}
@@ -85,3 +87,20 @@ contaminantRead b place previous =
     (cond (not (contaminantFits (contaminantAt b 8) && contaminantUnused b 8)) (C.Refused Field)
     (cond (leb (wordAt b 12) previous) (C.Refused Order)
     (C.Found (contaminantAt b 8))))))
+
+-- ---- the number of the paper and the value of each case: number 0 with what the block holds, or a refusal's number with zeros
+abbrev pub headerNumber : HeaderRead → ℕ
+headerNumber (H.Found h) = 0
+headerNumber (H.Refused n) = numberOf n
+
+abbrev pub headerValue : HeaderRead → Header
+headerValue (H.Found h) = h
+headerValue (H.Refused n) = record { medium = 0; count = 0; scenario = blank }
+
+abbrev pub contaminantNumber : ContaminantRead → ℕ
+contaminantNumber (C.Found r) = 0
+contaminantNumber (C.Refused n) = numberOf n
+
+abbrev pub contaminantValue : ContaminantRead → Contaminant
+contaminantValue (C.Found r) = r
+contaminantValue (C.Refused n) = noContaminant

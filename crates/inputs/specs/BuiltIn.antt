@@ -7,8 +7,10 @@ use lib.IntN.{ℤ, pos, negsuc}
 use Rattle.outcome.specs.declared.Refusal.{Refusal}
 use Rattle.outcome.specs.declared.Refusal.the-variants.{Accepted, Scenario as NoScenario}
 use Rattle.decimal.specs.declared.Decimal.{Decimal}
+use Rattle.decimal.specs.Decimal.{zeroOf}
 use Rattle.decimal.specs.Figures.{dec}
 use Rattle.inputs.specs.declared.Scenario.{Scenario}
+use Rattle.inputs.specs.declared.Contaminant.{Contaminant}
 use Rattle.inputs.specs.declared.BuiltIn.{BuiltIn}
 
 -- 1 office worker (002, Table 5.1.1)
@@ -26,6 +28,21 @@ birdWatcher = record { ef = dec 50 (pos 0); ed = dec 5 (pos 0); bw = dec 70 (pos
 -- zero decimals
 abbrev pub blank : Scenario
 blank = record { ef = dec 0 (pos 0); ed = dec 0 (pos 0); bw = dec 0 (pos 0); at = dec 0 (pos 0); ir = dec 0 (pos 0); ira = dec 0 (pos 0); pef = dec 0 (pos 0); et = dec 0 (pos 0); rf = dec 0 (pos 0); sa = dec 0 (pos 0); tr = dec 0 (pos 0); thi = dec 0 (pos 0) }
+
+-- a contaminant of class 0 and id 0, which keeps no rule
+abbrev pub noContaminant : Contaminant
+noContaminant = record {
+  class = 0;
+  id = 0;
+  sfo = zeroOf;
+  sfi = zeroOf;
+  sfx = zeroOf;
+  rfdo = zeroOf;
+  rfdi = zeroOf;
+  vf = zeroOf;
+  pc = zeroOf;
+  c = zeroOf;
+}
 
 abbrev pub accepted : Scenario → BuiltIn
 accepted s = record { refusal = Accepted; scenario = s }

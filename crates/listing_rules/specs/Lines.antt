@@ -50,6 +50,11 @@ sumLine side t =
     (115 ∷ (117 ∷ (109 ∷ (32 ∷ [])))) ++ sideWord side ++ spaced (markOf (t .verdict)) (t .lower) ++ spaced (markOf (t .verdict)) (t .upper) ++
     (32 ∷ verdictWord (t .verdict)) ++ (10 ∷ [])
 
+-- "sum SIDE - - none"
+unfoldable pub noneLine : ℕ → List ℕ
+noneLine side =
+    (115 ∷ (117 ∷ (109 ∷ (32 ∷ [])))) ++ sideWord side ++ (32 ∷ (45 ∷ (32 ∷ (45 ∷ (32 ∷ (110 ∷ (111 ∷ (110 ∷ (101 ∷ (10 ∷ []))))))))))
+
 -- refused, number, block, block
 unfoldable pub refusalLine : ℕ → ℕ → List ℕ
 refusalLine n block =

@@ -5,3 +5,5 @@ pub mod Promises
 pub mod OutputBlocks
 pub mod WrittenSite
 pub mod RefusalTable
+pub mod AnswerBounds
+pub mod ReadBack

@@ -22,8 +22,9 @@ use Rattle.sum_rules.specs.declared.SumsAnswer.{SumsAnswer}
 use Rattle.sum_rules.specs.Share.{hasPathway}
 use Rattle.sum_rules.specs.Verdict.{verdictNumber}
 use Rattle.sum_rules.specs.ListCall.{sumsOf}
-use Rattle.sum_rules.specs.Promise.{exactSum, somePathway, noConcentration, sideAt, Enclosed, Judged}
+use Rattle.sum_rules.specs.Promise.{exactSum, somePathway, noConcentration, sideAt, ZeroSums, Enclosed, Judged}
 use Rattle.sum_rules.proofs.Verdicts.{sums-enclose, zero-within, verdict-judges}
+use Rattle.sum_rules.proofs.NoPathway.{none-zero}
 use Rattle.site_rules.specs.Site.{siteAnswer}
 use Rattle.site_rules.specs.Results.{headerOf, recordAt, recordsFrom}
 use Rattle.site_rules.specs.Passed.{RecordOk}
@@ -64,6 +65,11 @@ module _ (site : List ℕ) (out : ℕ) (z : numberOf (siteAnswer site out .refus
     -- with a pathway and C zero throughout the verdict is "within"
     pub site-zero-within : somePathway s medium side records ≡ true → noConcentration records ≡ true → verdictNumber (sideAt (siteAnswer site out) side .verdict) ≡ 1
     site-zero-within k c = subst (λ (a : SumsAnswer). verdictNumber (sideAt a side .verdict) ≡ 1) (sym (site-sums site out z)) (zero-within s medium records listed side l k c)
+
+    -- "none" has zero sums
+    pub site-none-zero : verdictNumber (sideAt (siteAnswer site out) side .verdict) ≡ 4 → ZeroSums (sideAt (siteAnswer site out) side)
+    site-none-zero =
+        subst (λ (a : SumsAnswer). verdictNumber (sideAt a side .verdict) ≡ 4 → ZeroSums (sideAt a side)) (sym (site-sums site out z)) (none-zero s medium records listed side l)
 
   -- ---- the guidelines of the record at place k
   module _ (k : ℕ) (first : 1 ≤ k) (last : k ≤ headerOf site .count) where

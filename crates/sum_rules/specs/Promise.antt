@@ -5,6 +5,7 @@ use mathlib.Core.List.{List, [], _∷_, map}
 use Prim.Native.Nat.{ℕ, zero, suc}
 use lib.Dec.{eqb}
 use Rattle.decimal.specs.declared.Decimal.{Decimal}
+use Rattle.decimal.specs.Decimal.{zeroOf}
 use Rattle.decimal.specs.Fraction.{Fraction, nothing, given, times, AtMost}
 use Rattle.decimal.specs.Lists.{plusAll}
 use Rattle.inputs.specs.declared.Scenario.{Scenario}
@@ -33,6 +34,11 @@ noConcentration (r ∷ rs) = eqb (r .c .m) 0 && noConcentration rs
 abbrev pub sideAt : SumsAnswer → ℕ → SideSums
 sideAt a zero = a .risk
 sideAt a (suc n) = a .hazard
+
+-- both sums are (0, 0): what "none" says beside its verdict
+pub record ZeroSums (t : SideSums) : Type 0 where
+  pub lower : t .lower ≡ zeroOf
+  pub upper : t .upper ≡ zeroOf
 
 -- 1 + 2/1,000,000 and 1 - 2/1,000,000
 abbrev pub more : Fraction
