@@ -19,7 +19,8 @@ use Rattle.rounding.specs.Number.{worth, one, Nine, InRange}
 use Rattle.rounding.specs.Round.{Rounds}
 use Rattle.rounding.specs.Operations.{productOf, quotientOf, sumOf}
 use Rattle.rounding.proofs.Distances.{opposed, directed-refl, directed-more, directed-trans, directed-mul, directed-scale, directed-cancel, directed-add, directed-is}
-use Rattle.rounding.proofs.Greatest.{pow-ten-pos, rounds-nine}
+use Rattle.rounding.proofs.Greatest.{pow-ten-pos}
+use Rattle.rounding.proofs.Near.{rounds-nine, rounds-near}
 use Rattle.rounding.proofs.ExactResults.{one-pos, product-rounds, quotient-rounds, sum-rounds, sum-zero-right, sum-zero-left, sum-zero-both}
 use Rattle.rounding.specs.WorkingForm.{nineOf}
 use Rattle.rounding.proofs.NineDigits.{nine-nine, nine-zero, nine-result}
@@ -147,7 +148,9 @@ module _ (dir : Direction) {a b : Decimal} {p q : Fraction} {j k v w : ℕ} wher
     sized = sized-mul dir (f .sized) (g .sized) h;
     top = mul-pos (f .top) (g .top);
     bottom = mul-pos (f .bottom) (g .bottom);
-    near = mul-near dir j k one (valueOf a) (valueOf b) (valueOf (mulOf a b dir)) (p .top) (p .bottom) (q .top) (q .bottom) one-pos (mul-rounds dir a b (sized-operable (f .sized)) (sized-operable (g .sized)) .near) (f .near) (g .near);
+    near =
+        mul-near dir j k one (valueOf a) (valueOf b) (valueOf (mulOf a b dir)) (p .top) (p .bottom) (q .top) (q .bottom) one-pos
+        (rounds-near (mul-rounds dir a b (sized-operable (f .sized)) (sized-operable (g .sized)))) (f .near) (g .near);
   }
 
   pub approx-div : Approx dir j v a p → Approx (opposite dir) k w b q → v + w ≤ 980 → Approx dir (k + (1 + j)) (v + w + 1) (divOf a b dir) (over p q)
@@ -155,7 +158,9 @@ module _ (dir : Direction) {a b : Decimal} {p q : Fraction} {j k v w : ℕ} wher
     sized = sized-div dir (f .sized) (g .sized) h;
     top = mul-pos (f .top) (g .bottom);
     bottom = mul-pos (f .bottom) (g .top);
-    near = div-near dir j k one (valueOf a) (valueOf b) (valueOf (divOf a b dir)) (p .top) (p .bottom) (q .top) (q .bottom) one-pos (div-rounds dir a b (sized-operable (f .sized)) (sized-operable (g .sized)) (omega (arith, g .sized .nine .least)) .near) (f .near) (g .near);
+    near =
+        div-near dir j k one (valueOf a) (valueOf b) (valueOf (divOf a b dir)) (p .top) (p .bottom) (q .top) (q .bottom) one-pos
+        (rounds-near (div-rounds dir a b (sized-operable (f .sized)) (sized-operable (g .sized)) (omega (arith, g .sized .nine .least)))) (f .near) (g .near);
   }
 
 module _ (dir : Direction) {a b : Decimal} {p q : Fraction} {k w : ℕ} where
@@ -164,7 +169,9 @@ module _ (dir : Direction) {a b : Decimal} {p q : Fraction} {k w : ℕ} where
     sized = sized-add dir (f .sized) (g .sized) h (le-refl w);
     top = omega (arith, mul-pos (f .top) (g .bottom));
     bottom = mul-pos (f .bottom) (g .bottom);
-    near = add-near dir k one (valueOf a) (valueOf b) (valueOf (addOf a b dir)) (p .top) (p .bottom) (q .top) (q .bottom) (add-rounds dir a b (sized-operable (f .sized)) (sized-operable (g .sized)) .near) (f .near) (g .near);
+    near =
+        add-near dir k one (valueOf a) (valueOf b) (valueOf (addOf a b dir)) (p .top) (p .bottom) (q .top) (q .bottom)
+        (rounds-near (add-rounds dir a b (sized-operable (f .sized)) (sized-operable (g .sized)))) (f .near) (g .near);
   }
 
 -- ---- d stands for q, which may be zero

@@ -2,23 +2,21 @@
 -- it is the only one, and a larger fraction is not rounded to less. Assumes nothing.
 use mathlib.Core.Path.{_≡_, refl, sym, ap, subst, subst⁻¹, _∙_}
 use mathlib.Core.Bool.{Bool, true, false, cond}
-use mathlib.Core.Logic.{_⊎_, inl, inr, ⊎-elim}
-use Prim.Native.Nat.{ℕ, zero-le, _+_, _-_, _*_, _^_, _≤_, _<_}
-use native.Mathlib.Nat.{mul-right-comm, mul-pos, mul-assoc, mul-one, zero-mul, mul-lt-mul-of-pos-right, le-refl, le-trans, le-antisymm, le-of-lt, lt-of-lt-of-le, mul-le-mul-right, le-of-mul-le-mul-right, lt-of-mul-lt-mul-right, pow-le-pow-right, one-le-pow, pow-suc, eq-zero-or-pos}
+use mathlib.Core.Logic.{inl, inr}
+use Prim.Native.Nat.{ℕ, _+_, _-_, _*_, _^_, _≤_, _<_}
+use native.Mathlib.Nat.{mul-right-comm, mul-assoc, mul-one, zero-mul, mul-lt-mul-of-pos-right, le-refl, le-trans, le-antisymm, le-of-lt, mul-le-mul-right, le-of-mul-le-mul-right, pow-le-pow-right, one-le-pow, pow-suc}
 use native.Mathlib.Decide.{decLt}
 use native.Mathlib.Omega.{arith}
 use lib.Pow.{pow-add}
-use lib.Dec.{ltb, lit≤, lit<}
+use lib.Dec.{ltb, lit<}
 use borrow.Author.Tests.{ltb-true, ltb-false}
 use Rattle.rounding.specs.declared.Direction.{Direction}
 use Rattle.rounding.specs.declared.Direction.the-variants.{Down, Up}
 use Rattle.rounding.specs.declared.Number.{Number}
 use Rattle.rounding.specs.Direction.{Side}
-use Rattle.rounding.specs.Within.{Directed}
 use Rattle.rounding.specs.Number.{worth, Nine, Working}
 use Rattle.rounding.specs.Round.{Rounds, divideOf, cutOf, roundOf}
-use Rattle.rounding.proofs.Distances.{directed-scale, directed-cancel, directed-same}
-use Rattle.rounding.proofs.WholeQuotients.{divide-side, divide-best, divide-least, divide-most, divide-near, divide-divide, divide-zero, up-lt}
+use Rattle.rounding.proofs.WholeQuotients.{divide-side, divide-best, divide-least, divide-most, divide-divide, divide-zero, up-lt}
 
 pub pow-ten-pos : (x : ℕ) → 0 < 10 ^ x
 pow-ten-pos x = one-le-pow x 10 (lit< tt)
@@ -31,6 +29,11 @@ side-scale Up z s = record { side = mul-le-mul-right z (s .side) }
 pub side-cancel : (dir : Direction) {r v : ℕ} (z : ℕ) → 0 < z → Side dir (r * z) (v * z) → Side dir r v
 side-cancel Down z h s = record { side = le-of-mul-le-mul-right (s .side) h }
 side-cancel Up z h s = record { side = le-of-mul-le-mul-right (s .side) h }
+
+-- a value beside one that is beside a third
+pub side-trans : (dir : Direction) {a b c : ℕ} → Side dir a b → Side dir b c → Side dir a c
+side-trans Down s t = record { side = le-trans (s .side) (t .side) }
+side-trans Up s t = record { side = le-trans (t .side) (s .side) }
 
 -- nine digits at a lower exponent are less
 pub small : (k y x : ℕ) → k < 1000000000 → y < x → k * 10 ^ y < 100000000 * 10 ^ x
@@ -75,7 +78,6 @@ module _ (dir : Direction) (n d : ℕ) (h : 0 < d) (l : 100000000 * d ≤ n) whe
     working = inr g;
     side = rw e (subst (λ (v : ℕ). Side dir v (n * 10 ^ x)) (mul-right-comm (divideOf dir n d) d (10 ^ x)) (side-scale dir (10 ^ x) (divide-side n d h dir)));
     best = λ w j f s. rw e (shifted j (w .m * 10 ^ w .x) (best-nine (x + j) (w .m) (w .x) (most w f) (decLt (w .x) (x + j)) (moved j (w .m * 10 ^ w .x * d) s)));
-    near = rw e (subst (λ (v : ℕ). Directed dir 1 v (n * 10 ^ x)) (mul-right-comm (divideOf dir n d) d (10 ^ x)) (directed-scale dir (10 ^ x) (divide-near n d h dir l)));
   }
     where
       moved : (j v : ℕ) → Side dir v (n * 10 ^ x * 10 ^ j) → Side dir v (n * 10 ^ (x + j))
@@ -89,15 +91,11 @@ module _ (dir : Direction) (n d n′ d′ : ℕ) (same : n * d′ ≡ n′ * d) 
   side-same : (r : ℕ) → 0 < d → Side dir (r * d) n → Side dir (r * d′) n′
   side-same r h s = side-cancel dir d h (subst (λ (v : ℕ). Side dir (r * d′ * d) v) same (subst (λ (v : ℕ). Side dir v (n * d′)) (mul-right-comm r d d′) (side-scale dir d′ s)))
 
-  near-same : {k : ℕ} (r : ℕ) → 0 < d → Directed dir k (r * d) n → Directed dir k (r * d′) n′
-  near-same {k} r h s = directed-cancel dir d h (subst (λ (v : ℕ). Directed dir k (r * d′ * d) v) same (subst (λ (v : ℕ). Directed dir k v (n * d′)) (mul-right-comm r d d′) (directed-scale dir d′ s)))
-
 pub rounds-same : (dir : Direction) (n d n′ d′ : ℕ) (r : Number) → n * d′ ≡ n′ * d → 0 < d → 0 < d′ → Rounds dir n d r → Rounds dir n′ d′ r
 rounds-same dir n d n′ d′ r same h h′ f = record {
   working = f .working;
   side = side-same dir n d n′ d′ same (worth r) h (f .side);
   best = λ w j g s. f .best w j g (side-same dir (n′ * 10 ^ j) d′ (n * 10 ^ j) d (scaled (10 ^ j)) (worth w) h′ s);
-  near = near-same dir n d n′ d′ same (worth r) h (f .near);
 }
   where
     scaled : (p : ℕ) → n′ * p * d ≡ n * p * d′
@@ -109,7 +107,6 @@ rounds-worth dir n d r r′ e g f = record {
   working = g;
   side = rw e (f .side);
   best = λ w j h s. rw e (f .best w j h s);
-  near = rw e (f .near);
 }
 
 -- ---- the rounding of a fraction from 10^8 to 9,999,999,990. A quotient that is 10^9 after rounding up is 10^8 at the next exponent
@@ -173,7 +170,6 @@ zero-rounds dir n d r z e h = record {
   working = inl e;
   side = both dir (worth r * d) n nothing z;
   best = λ w j f s. least dir (worth w) (n * 10 ^ j) (worth r * 10 ^ j) d h s (rw z (zero-mul (10 ^ j))) (rw e (omega arith));
-  near = directed-same dir 1 _ _ (nothing ∙ sym z);
 }
   where
     nothing : worth r * d ≡ 0
@@ -190,18 +186,6 @@ zero-rounds dir n d r z e h = record {
 pub round-zero : (dir : Direction) (d x : ℕ) → 0 < d → roundOf dir 0 d x ≡ record { m = 0; x = x }
 unfolding roundOf cutOf
 round-zero dir d x h = rw (divide-zero dir d h)
-
--- ---- a fraction above zero is not rounded to zero
-pub rounds-nine : (dir : Direction) (n d : ℕ) (r : Number) → 0 < n → Rounds dir n d r → Nine r
-rounds-nine dir n d r p f = cases (f .working)
-  where
-    clash : (dir : Direction) → r .m ≡ 0 → Directed dir 1 (worth r * d) n → ⊥
-    clash Down z g = omega (arith, g .within .high, ap (λ (v : ℕ). v * 10 ^ r .x * d) z)
-    clash Up z g = omega (arith, g .within .low, ap (λ (v : ℕ). v * 10 ^ r .x * d) z)
-
-    cases : Working r → Nine r
-    cases (inl z) = absurd (clash dir z (f .near))
-    cases (inr g) = g
 
 -- ---- a larger fraction is not rounded to less, and so a fraction is rounded to one value only
 pub rounds-mono : (dir : Direction) (n d n′ d′ : ℕ) (r r′ : Number) → 0 < d → 0 < d′ → n * d′ ≤ n′ * d → Rounds dir n d r → Rounds dir n′ d′ r′ → worth r ≤ worth r′

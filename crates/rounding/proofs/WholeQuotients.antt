@@ -1,14 +1,12 @@
 -- Whole quotients rounded in a direction: the greatest not above, the least not below. Assumes nothing.
-use mathlib.Core.Path.{_≡_, refl, sym, ap, subst, _∙_}
+use mathlib.Core.Path.{_≡_, sym, ap, _∙_}
 use mathlib.Core.Logic.{⊎-elim}
-use Prim.Native.Nat.{ℕ, _+_, _-_, _*_, _/_, _%_, _≤_, _<_}
-use native.Mathlib.Nat.{add-zero, add-comm, le-of-mul-le-mul-right, lt-of-mul-lt-mul-right, div-add-mod', mod-lt, le-div-iff-mul-le, div-lt-iff-lt-mul, mul-le-mul-right, add-mul-div-right, div-div-eq-div-mul, mul-comm, div-eq-of-lt, div-eq-of-lt-le, eq-zero-or-pos}
+use Prim.Native.Nat.{ℕ, _+_, _-_, _*_, _/_, _≤_, _<_}
+use native.Mathlib.Nat.{add-zero, add-comm, le-of-mul-le-mul-right, lt-of-mul-lt-mul-right, div-add-mod', mod-lt, le-div-iff-mul-le, add-mul-div-right, div-div-eq-div-mul, mul-comm, div-eq-of-lt, div-eq-of-lt-le, eq-zero-or-pos}
 use native.Mathlib.Omega.{arith}
-use lib.Dec.{lit<}
 use Rattle.rounding.specs.declared.Direction.{Direction}
 use Rattle.rounding.specs.declared.Direction.the-variants.{Down, Up}
 use Rattle.rounding.specs.Direction.{Side}
-use Rattle.rounding.specs.Within.{Directed}
 use Rattle.rounding.specs.Round.{extraOf, divideOf}
 
 module _ (n d : ℕ) (h : 0 < d) where
@@ -19,9 +17,6 @@ module _ (n d : ℕ) (h : 0 < d) where
   -- less than one divisor away
   pub up-lt : divideOf Up n d * d < n + d
   up-lt = omega (arith, div-add-mod' (n + (d - 1)) d)
-
-  down-lt : n < divideOf Down n d * d + d
-  down-lt = omega (arith, div-add-mod' (n + 0) d, mod-lt (n + 0) h)
 
   pub divide-best : (dir : Direction) (k : ℕ) → Side dir (k * d) n → Side dir k (divideOf dir n d)
   divide-best Down k s = record { side = le-div-iff-mul-le h .1 (omega (arith, s .side)) }
@@ -37,11 +32,6 @@ module _ (n d : ℕ) (h : 0 < d) where
   pub divide-most : (dir : Direction) (c : ℕ) → n ≤ c * d → divideOf dir n d ≤ c
   divide-most Down c l = le-of-mul-le-mul-right {k = d} (omega (arith, l, div-add-mod' (n + 0) d)) h
   divide-most Up c l = divide-best Up c (record { side = l }) .side
-
-  -- one part in 10^8 away, where the quotient has nine digits
-  pub divide-near : (dir : Direction) → 100000000 * d ≤ n → Directed dir 1 (divideOf dir n d * d) n
-  divide-near Down l = record { within = record { low = divide-side Down .side; high = omega (arith, down-lt, mul-le-mul-right d (divide-least Down 100000000 l)) } }
-  divide-near Up l = record { within = record { low = divide-side Up .side; high = omega (arith, up-lt, l) } }
 
   -- a quotient divided again
   pub divide-divide : (dir : Direction) → divideOf dir (divideOf dir n d) 10 ≡ divideOf dir n (10 * d)

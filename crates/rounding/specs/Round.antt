@@ -6,7 +6,6 @@ use Rattle.rounding.specs.declared.Direction.{Direction}
 use Rattle.rounding.specs.declared.Direction.the-variants.{Down, Up}
 use Rattle.rounding.specs.declared.Number.{Number}
 use Rattle.rounding.specs.Direction.{Side}
-use Rattle.rounding.specs.Within.{Directed}
 use Rattle.rounding.specs.Number.{worth, Working}
 
 -- r is the greatest working decimal not above n / d (down), or the least not below it (up).
@@ -15,7 +14,6 @@ pub record Rounds (dir : Direction) (n d : ℕ) (r : Number) : Type 0 where
   pub working : Working r
   pub side : Side dir (worth r * d) n
   pub best : (w : Number) (j : ℕ) → Working w → Side dir (worth w * d) (n * 10 ^ j) → Side dir (worth w) (worth r * 10 ^ j)
-  pub near : Directed dir 1 (worth r * d) n
 
 -- what is added to a dividend: nothing, or the divisor less one
 abbrev pub extraOf : Direction → ℕ → ℕ

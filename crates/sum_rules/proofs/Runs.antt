@@ -7,7 +7,10 @@ use native.Mathlib.Omega.{arith}
 use lib.Dec.{eqb, leb}
 use lib.ListN.{length}
 use borrow.Author.Tests.{leb-true, eqb-true, eqb-false}
+use Rattle.rounding.specs.declared.Direction.{Direction}
 use Rattle.rounding.specs.declared.Direction.the-variants.{Down, Up}
+use Rattle.decimal.specs.declared.Decimal.{Decimal}
+use Rattle.decimal.specs.Decimal.{zeroOf, addOf}
 use Rattle.decimal.specs.Lists.{added}
 use Rattle.outcome.specs.declared.Refusal.{Refusal}
 use Rattle.outcome.specs.declared.Refusal.the-variants.{Accepted as NotRefused, Length, Field, Factor, Order, Pathway, Range}
@@ -30,19 +33,36 @@ use Rattle.sum_rules.specs.Promise.{somePathway, sideAt}
 use Rattle.sum_rules.proofs.ShareBounds.{AllAccepted}
 use Rattle.sum_rules.proofs.ShareBounds.AllAccepted.{nobody, also}
 
--- ---- the running sums of a side over a list
-pub run-lower : (s : Scenario) (medium side : ℕ) (rs : List Contaminant) (t : Running) → runAll s medium side t rs .lower ≡ added Down (t .lower) (map (λ (r : Contaminant). shareOf s medium r Down side) rs)
-run-lower s medium side [] t = refl
-run-lower s medium side (r ∷ rs) t = run-lower s medium side rs (next s medium side t r)
+-- ---- the running sums of a side over a list: once for the lower sum, rounded down, and the upper sum, rounded up
+abbrev pub runSum : Direction → Running → Decimal
+runSum Down t = t .lower
+runSum Up t = t .upper
 
-pub run-upper : (s : Scenario) (medium side : ℕ) (rs : List Contaminant) (t : Running) → runAll s medium side t rs .upper ≡ added Up (t .upper) (map (λ (r : Contaminant). shareOf s medium r Up side) rs)
-run-upper s medium side [] t = refl
-run-upper s medium side (r ∷ rs) t = run-upper s medium side rs (next s medium side t r)
+-- a step adds the share of a record
+pub next-sum : (dir : Direction) (s : Scenario) (medium side : ℕ) (t : Running) (r : Contaminant) → runSum dir (next s medium side t r) ≡ addOf (runSum dir t) (shareOf s medium r dir side) dir
+next-sum Down s medium side t r = refl
+next-sum Up s medium side t r = refl
 
+-- a list adds the shares of its records in order
+pub run-sum : (dir : Direction) (s : Scenario) (medium side : ℕ) (rs : List Contaminant) (t : Running) →
+    runSum dir (runAll s medium side t rs) ≡ added dir (runSum dir t) (map (λ (r : Contaminant). shareOf s medium r dir side) rs)
+run-sum dir s medium side [] t = refl
+run-sum dir s medium side (r ∷ rs) t =
+    run-sum dir s medium side rs (next s medium side t r) ∙
+    ap (λ (d : Decimal). added dir d (map (λ (r : Contaminant). shareOf s medium r dir side) rs)) (next-sum dir s medium side t r)
+
+-- the same from the start
+pub run-start : (dir : Direction) (s : Scenario) (medium side : ℕ) (rs : List Contaminant) →
+    runSum dir (runAll s medium side start rs) ≡ added dir zeroOf (map (λ (r : Contaminant). shareOf s medium r dir side) rs)
+run-start Down s medium side rs = run-sum Down s medium side rs start
+run-start Up s medium side rs = run-sum Up s medium side rs start
+
+-- whether a record has a pathway on the side, by the exact values
 has-same : (s : Scenario) (medium side : ℕ) (r : Contaminant) → Accepted s medium r → hasPathway s medium r side ≡ anyPresent (exactValues (inputsOf s r)) (pathwaysOf medium (r .class) side)
 unfolding hasPathway
 has-same s medium side r a = any-same (valuesOf Up (inputsOf s r)) (exactValues (inputsOf s r)) (values-of Up s medium r a) (pathwaysOf medium (r .class) side)
 
+-- whether some record of the list has one
 pub run-any : (s : Scenario) (medium side : ℕ) (rs : List Contaminant) → AllAccepted s medium rs → (t : Running) → runAll s medium side t rs .any ≡ t .any || somePathway s medium side rs
 run-any s medium side [] nobody t = or-false (t .any)
 run-any s medium side (r ∷ rs) (also a as′) t =

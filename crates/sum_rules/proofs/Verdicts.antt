@@ -3,15 +3,18 @@ use mathlib.Core.Path.{_≡_, refl, sym, ap, subst, _∙_}
 use mathlib.Core.Bool.{Bool, true, false, false≢true, cond, not}
 use mathlib.Core.List.{List, [], _∷_, map}
 use Prim.Native.Nat.{ℕ, zero, suc, _*_, _^_, _≤_, _<_}
-use native.Mathlib.Nat.{mul-le-mul-right, mul-lt-mul-of-pos-right, zero-mul}
+use native.Mathlib.Nat.{le-of-lt, mul-assoc, mul-right-comm, mul-le-mul-right, mul-lt-mul-of-pos-right, zero-mul}
 use native.Mathlib.Omega.{arith}
 use lib.Dec.{eqb, leb}
 use lib.ListN.{length}
 use borrow.Author.Tests.{eqb-true, le-leb, leb-true, leb-false}
+use Rattle.rounding.specs.declared.Direction.{Direction}
 use Rattle.rounding.specs.declared.Direction.the-variants.{Down, Up}
-use Rattle.rounding.specs.Within.{Within}
+use Rattle.rounding.specs.Direction.{opposite, Side}
+use Rattle.rounding.specs.Within.{Directed}
 use Rattle.rounding.specs.Number.{one}
-use Rattle.rounding.proofs.Distances.{parts}
+use Rattle.rounding.proofs.Distances.{directed-same, parts}
+use Rattle.rounding.proofs.Greatest.{side-scale, side-trans}
 use Rattle.decimal.specs.declared.Decimal.{Decimal}
 use Rattle.decimal.specs.Decimal.{valueOf, atMostOf, workingOf}
 use Rattle.decimal.specs.Fraction.{Fraction, given, times, plus, AtMost}
@@ -34,37 +37,44 @@ use Rattle.sum_rules.specs.ListCall.{workingTarget, sideSums, sumsOf}
 use Rattle.sum_rules.specs.Promise.{exactSum, somePathway, noConcentration, sideAt, more, less, Enclosed, MoreThan, Judged}
 use Rattle.sum_rules.proofs.ShareBounds.{fair-bottom, AllAccepted, list-bounds}
 use Rattle.sum_rules.proofs.ShareBounds.AllAccepted.{nobody, also}
-use Rattle.sum_rules.proofs.Runs.{run-lower, run-upper, run-any, AcceptedList, accepted-list}
+use Rattle.sum_rules.proofs.Runs.{runSum, run-start, run-any, AcceptedList, accepted-list}
 
--- ---- 139 roundings are less than 2/1,000,000
-upper-core : (a b : ℕ) → Within 139 a b → b * 1000000 ≤ a * 1000002
-upper-core a b f = let h = parts 139 140 tt f in omega arith
+-- ---- a sum is on its side of the exact sum, within 2/1,000,000 of it: once for both directions
+-- 1 - 2/1,000,000 for a sum rounded down, 1 + 2/1,000,000 for one rounded up
+abbrev millionths : Direction → ℕ
+millionths Down = less .top
+millionths Up = more .top
 
-lower-core : (a b : ℕ) → Within 139 a b → b * 999998 ≤ a * 1000000
-lower-core a b f = let h = parts 139 140 tt f in omega arith
+abbrev bound : Direction → Fraction
+bound dir = record { top = millionths dir; bottom = 1000000 }
 
--- what is below, and what is above
-record Below (lo : Decimal) (q : Fraction) : Type 0 where
-  side : AtMost (given lo) q
-  near : AtMost (times q less) (given lo)
+-- p is at most q (down), or at least q (up)
+abbrev Beside : Direction → Fraction → Fraction → Type 0
+Beside dir p q = Side dir (p .top * q .bottom) (q .top * p .bottom)
 
-record Above′ (up : Decimal) (q : Fraction) : Type 0 where
-  side : AtMost q (given up)
-  near : AtMost (given up) (times q more)
+-- the sum d, rounded in the direction, and the exact sum q
+record Close (dir : Direction) (d : Decimal) (q : Fraction) : Type 0 where
+  side : Beside dir (given d) q
+  near : Beside (opposite dir) (given d) (times q (bound dir))
 
-below : {w : ℕ} (lo : Decimal) (q : Fraction) → Fair Down 139 w lo q → Below lo q
+-- 139 roundings are less than 2/1,000,000
+bound-core : (dir : Direction) {r v : ℕ} → Directed dir 139 r v → Side (opposite dir) (r * 1000000) (v * millionths dir)
+bound-core Down f = let h = parts 139 140 tt (f .within) in record { side = omega arith }
+bound-core Up f = let h = parts 139 140 tt (f .within) in record { side = omega arith }
+
+-- what stands for a fraction is near it, zero included
+fair-near : {dir : Direction} {k w : ℕ} {d : Decimal} {q : Fraction} → Fair dir k w d q → Directed dir k (valueOf d * q .bottom) (q .top * one)
+fair-near {dir} {k} {w} {d} {q} (none e t b) =
+    let z : valueOf d ≡ 0 = ap valueOf e ∙ zero-mul (10 ^ 3000) in
+    directed-same dir k _ _ (omega (arith, ap (λ (n : ℕ). n * q .bottom) z, ap (λ (n : ℕ). n * one) t))
+fair-near (some f) = f .near
+
+-- what stands for a fraction by 139 roundings is close to it
+close : (dir : Direction) {w : ℕ} (d : Decimal) (q : Fraction) → Fair dir 139 w d q → Close dir d q
 unfolding given
-below lo q (none e t b) =
-    let z : valueOf lo ≡ 0 = ap valueOf e ∙ zero-mul (10 ^ 3000) in
-    record { side = omega (arith, ap (λ (n : ℕ). n * q .bottom) z); near = omega (arith, ap (λ (n : ℕ). n * 999998 * one) t) }
-below lo q (some f) = record { side = omega (arith, f .near .within .low); near = omega (arith, lower-core (valueOf lo * q .bottom) (q .top * one) (f .near .within)) }
-
-above : {w : ℕ} (up : Decimal) (q : Fraction) → Fair Up 139 w up q → Above′ up q
-unfolding given
-above up q (none e t b) =
-    let z : valueOf up ≡ 0 = ap valueOf e ∙ zero-mul (10 ^ 3000) in
-    record { side = omega (arith, ap (λ (n : ℕ). n * one) t); near = omega (arith, ap (λ (n : ℕ). n * (q .bottom * 1000000)) z) }
-above up q (some f) = record { side = omega (arith, f .near .within .low); near = omega (arith, upper-core (q .top * one) (valueOf up * q .bottom) (f .near .within)) }
+close dir d q f =
+    let h = fair-near f in
+    record { side = record { side = h .within .low }; near = rw (← (mul-assoc (valueOf d) (q .bottom) 1000000), mul-right-comm (q .top) (millionths dir) one) (bound-core dir h) }
 
 -- ---- the comparison of two working decimals
 at-most-is : (a b : Decimal) → Operable a → Operable b → atMostOf a b ≡ leb (valueOf a) (valueOf b)
@@ -72,23 +82,21 @@ unfolding atMostOf
 at-most-is a b f g = rw (f .tested, g .tested)
 
 -- ---- the verdict by its tests
-module _ (target : Decimal) {lower upper : Decimal} {q t : Fraction} (l : Below lower q) (u : Above′ upper q) (pos : 0 < q .bottom) (same : t ≡ given target) where
+module _ (target : Decimal) {lower upper : Decimal} {q t : Fraction} (l : Close Down lower q) (u : Close Up upper q) (pos : 0 < q .bottom) (same : t ≡ given target) where
   -- an upper sum that is at most the target
   within-true : valueOf upper ≤ valueOf target → AtMost q t
   unfolding given
-  within-true h = rw same (omega (arith, u .side, mul-le-mul-right (q .bottom) h))
+  within-true h = rw same (omega (arith, u .side .side, mul-le-mul-right (q .bottom) h))
 
+  -- a lower sum that is above the target
   above-true : valueOf target < valueOf lower → MoreThan q t
   unfolding given
-  above-true h = rw same (λ k. omega (arith, k, l .side, mul-lt-mul-of-pos-right h pos))
+  above-true h = rw same (λ k. omega (arith, k, l .side .side, mul-lt-mul-of-pos-right h pos))
 
-  low-true : valueOf lower ≤ valueOf target → AtMost (times q less) t
+  -- a target not below the lower sum, or not above the upper sum, keeps that sum's bound
+  near-true : (dir : Direction) {d : Decimal} → Close dir d q → Side (opposite dir) (valueOf target) (valueOf d) → Beside (opposite dir) t (times q (bound dir))
   unfolding given
-  low-true h = rw same (omega (arith, l .near, mul-le-mul-right (q .bottom * 1000000) h))
-
-  high-true : valueOf target < valueOf upper → AtMost t (times q more)
-  unfolding given
-  high-true h = rw same (omega (arith, u .near, mul-le-mul-right (q .bottom * 1000000) h))
+  near-true dir c h = rw same (side-trans (opposite dir) (side-scale (opposite dir) (q .bottom * 1000000) h) (c .near))
 
   judged-cases : (any a b : Bool) → leb (valueOf upper) (valueOf target) ≡ a → leb (valueOf lower) (valueOf target) ≡ b →
       Judged (verdictNumber (cond (not any) NoPathway (cond a WithinV (cond (not b) Above Undecided)))) any q t
@@ -121,8 +129,8 @@ module _ (target : Decimal) {lower upper : Decimal} {q t : Fraction} (l : Below 
     never-none = λ h. absurd (false≢true (sym h));
     within = λ h. absurd (omega (arith, h));
     above = λ h. absurd (omega (arith, h));
-    undecided-low = λ h. low-true (leb-true (valueOf lower) (valueOf target) f);
-    undecided-high = λ h. high-true (leb-false (valueOf upper) (valueOf target) e);
+    undecided-low = λ h. near-true Down l (record { side = leb-true (valueOf lower) (valueOf target) f }) .side;
+    undecided-high = λ h. near-true Up u (record { side = le-of-lt (leb-false (valueOf upper) (valueOf target) e) }) .side;
   }
 
   judged : (any : Bool) → Operable lower → Operable upper → Operable target → Judged (verdictNumber (verdictOf any lower upper target)) any q t
@@ -170,13 +178,14 @@ module _ (s : Scenario) (medium : ℕ) (rs : List Contaminant) (h : numberOf (su
   run : Running
   run = runAll s medium side start rs
 
-  low : Fair Down 139 752 (run .lower) (exactSum s medium side rs)
+  -- the sum of a direction stands for the exact sum
+  fair-run : (dir : Direction) → Fair dir 139 752 (runSum dir run) (exactSum s medium side rs)
   unfolding run
-  low = subst (λ (d : Decimal). Fair Down 139 752 d (exactSum s medium side rs)) (sym (run-lower s medium side rs start)) (list-bounds s medium side l Down rs (p .all) (p .most))
+  fair-run dir = subst (λ (d : Decimal). Fair dir 139 752 d (exactSum s medium side rs)) (sym (run-start dir s medium side rs)) (list-bounds s medium side l dir rs (p .all) (p .most))
 
-  up : Fair Up 139 752 (run .upper) (exactSum s medium side rs)
-  unfolding run
-  up = subst (λ (d : Decimal). Fair Up 139 752 d (exactSum s medium side rs)) (sym (run-upper s medium side rs start)) (list-bounds s medium side l Up rs (p .all) (p .most))
+  -- and is within 2/1,000,000 of it
+  close-run : (dir : Direction) → Close dir (runSum dir run) (exactSum s medium side rs)
+  close-run dir = close dir (runSum dir run) (exactSum s medium side rs) (fair-run dir)
 
   side-is : sideAt (sumsOf s medium rs) side ≡ sideSums s side run
   unfolding run
@@ -198,22 +207,22 @@ module _ (s : Scenario) (medium : ℕ) (rs : List Contaminant) (h : numberOf (su
   -- DEMAND 3: the exact sum lies from the lower to the upper sum, and each differs from it by at most 2/1,000,000 of it
   pub sums-enclose : Enclosed (sideAt (sumsOf s medium rs) side .lower) (sideAt (sumsOf s medium rs) side .upper) (exactSum s medium side rs)
   sums-enclose =
-      let a = below (run .lower) (exactSum s medium side rs) low in
-      let b = above (run .upper) (exactSum s medium side rs) up in
-      rw side-is (record { below = a .side; above = b .side; lower-near = a .near; upper-near = b .near })
+      let a = close-run Down in
+      let b = close-run Up in
+      rw side-is (record { below = a .side .side; above = b .side .side; lower-near = a .near .side; upper-near = b .near .side })
 
   -- with a pathway and C zero throughout the verdict is "within"
   pub zero-within : somePathway s medium side rs ≡ true → noConcentration rs ≡ true → verdictNumber (sideAt (sumsOf s medium rs) side .verdict) ≡ 1
   unfolding verdictOf
   zero-within k z =
-      let u = upper-zero up (zero-sum s medium side rs _ refl z) in
-      let e = at-most-is (run .upper) (workingTarget s side) (fair-operable up) target-operable ∙ le-leb (valueOf (run .upper)) (valueOf (workingTarget s side)) (omega (arith, u)) in
+      let u = upper-zero (fair-run Up) (zero-sum s medium side rs _ refl z) in
+      let e = at-most-is (run .upper) (workingTarget s side) (fair-operable (fair-run Up)) target-operable ∙ le-leb (valueOf (run .upper)) (valueOf (workingTarget s side)) (omega (arith, u)) in
       rw (side-is, any-is, k, e)
 
   -- DEMAND 3: "none" exactly when there is no pathway; "within" only if the exact sum is at most the target, "above" only if it is more,
   -- "undecided" only if the target differs from it by at most 2/1,000,000 of it
   pub verdict-judges : Judged (verdictNumber (sideAt (sumsOf s medium rs) side .verdict)) (somePathway s medium side rs) (exactSum s medium side rs) (given (targetOf s side))
   verdict-judges =
-      let a = below (run .lower) (exactSum s medium side rs) low in
-      let b = above (run .upper) (exactSum s medium side rs) up in
-      rw (side-is, ← any-is) (judged (workingTarget s side) a b (fair-bottom low) target-given (run .any) (fair-operable low) (fair-operable up) target-operable)
+      rw (side-is, ← any-is)
+      (judged (workingTarget s side) (close-run Down) (close-run Up) (fair-bottom (fair-run Down)) target-given (run .any)
+      (fair-operable (fair-run Down)) (fair-operable (fair-run Up)) target-operable)

@@ -62,10 +62,8 @@ module _ {p : Plan} {r : Contaminant} {w : Worked} (h : Workable p r) (k : Worke
     risk-side = record {
       accepted = inputs-of h;
       place = lit< tt;
-      above = sides (values-same Up (h .ready .factors) (h .ready .up) (k .toxicity)) (k .upper-terms .risk);
-      below = sides (values-same Down (h .ready .factors) (h .ready .down) (k .toxicity)) (k .lower-terms .risk);
-      upper = u;
-      lower = k .risk;
+      above = record { terms = sides (values-same Up (h .ready .factors) (h .ready .up) (k .toxicity)) (k .upper-terms .risk); sum = u };
+      below = record { terms = sides (values-same Down (h .ready .factors) (h .ready .down) (k .toxicity)) (k .lower-terms .risk); sum = k .risk };
       c = c-stands;
     }
 
@@ -73,10 +71,8 @@ module _ {p : Plan} {r : Contaminant} {w : Worked} (h : Workable p r) (k : Worke
     hazard-side = record {
       accepted = inputs-of h;
       place = lit< tt;
-      above = sides (values-same Up (h .ready .factors) (h .ready .up) (k .toxicity)) (k .upper-terms .hazard);
-      below = sides (values-same Down (h .ready .factors) (h .ready .down) (k .toxicity)) (k .lower-terms .hazard);
-      upper = v;
-      lower = k .hazard;
+      above = record { terms = sides (values-same Up (h .ready .factors) (h .ready .up) (k .toxicity)) (k .upper-terms .hazard); sum = v };
+      below = record { terms = sides (values-same Down (h .ready .factors) (h .ready .down) (k .toxicity)) (k .lower-terms .hazard); sum = k .hazard };
       c = c-stands;
     }
 
