@@ -28,7 +28,7 @@ use Rattle.block_rules.specs.Reading.{contaminantAt, contaminantUnused, 
 use Rattle.block_rules.proofs.Found.{passed, refused}
 use Rattle.block_rules.proofs.Rules.{in-file, at-most-two}
 use Rattle.block_rules.specs.Layouts.{contaminantBlock}
-use Rattle.block_rules.specs.Answers.{contaminantFit, contaminantAnswer, leftBy, contaminantLeft}
+use Rattle.block_rules.specs.Answers.{contaminantFit, contaminantRefusal, leftBy, contaminantLeft}
 use Rattle.block_rules.proofs.ReadBack.{zeros-long, kind-back, first-back, second-back, decimals-back, unused-back, ending-back, block-length, sound-back}
 
 pub contaminant-length : (place : ℕ) (r : Contaminant) → length (contaminantBlock place r) ≡ 512
@@ -105,15 +105,15 @@ module _ (place previous : ℕ) (r : Contaminant) (fit : contaminantFit place r 
     contaminant-back-over d = ap (λ (l : List ℕ). contaminantRead l place previous) (part-over cb d 512 (contaminant-length place r)) ∙ contaminant-back
 
 -- ---- the same of what the call leaves, where it accepts
-accepted-fits : (out : List ℕ) (place : ℕ) (r : Contaminant) → contaminantAnswer out place r ≡ Accepted → contaminantFit place r ≡ true
-unfolding contaminantAnswer
-accepted-fits out place r e =
-    let e₁ = passed (ltb (length out) 512) Room _ Accepted (refused Room (λ z. omega arith)) e .1 in
+accepted-fits : (room place : ℕ) (r : Contaminant) → contaminantRefusal room place r ≡ Accepted → contaminantFit place r ≡ true
+unfolding contaminantRefusal
+accepted-fits room place r e =
+    let e₁ = passed (ltb room 512) Room _ Accepted (refused Room (λ z. omega arith)) e .1 in
     not-false _ (passed (not (contaminantFit place r)) Field Accepted Accepted (refused Field (λ z. omega arith)) e₁ .0)
 
-pub contaminant-call-back : (out : List ℕ) (place previous : ℕ) (r : Contaminant) → contaminantAnswer out place r ≡ Accepted → r .id < 4294967296 → previous < r .id
+pub contaminant-call-back : (out : List ℕ) (place previous : ℕ) (r : Contaminant) → contaminantRefusal (length out) place r ≡ Accepted → r .id < 4294967296 → previous < r .id
     → contaminantRead (partOf (contaminantLeft out place r) 0 512) place previous ≡ C.Found r
 unfolding contaminantLeft leftBy
 contaminant-call-back out place previous r e small above =
     ap (λ (a : Refusal). contaminantRead (partOf (leftBy a (contaminantBlock place r) out) 0 512) place previous) e
-    ∙ contaminant-back-over place previous r (accepted-fits out place r e) small above out
+    ∙ contaminant-back-over place previous r (accepted-fits (length out) place r e) small above out

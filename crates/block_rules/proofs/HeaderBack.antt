@@ -29,7 +29,7 @@ use Rattle.block_rules.specs.Reading.{scenarioAt, headerAt, headerUnused
 use Rattle.block_rules.proofs.Found.{passed, refused}
 use Rattle.block_rules.proofs.Rules.{in-file, at-most-two}
 use Rattle.block_rules.specs.Layouts.{headerBlock}
-use Rattle.block_rules.specs.Answers.{headerFit, headerAnswer, leftBy, headerLeft}
+use Rattle.block_rules.specs.Answers.{headerFit, headerRefusal, leftBy, headerLeft}
 use Rattle.block_rules.proofs.ReadBack.{zeros-long, kind-back, first-back, second-back, decimals-back, unused-back, ending-back, block-length, sound-back}
 
 pub header-length : (h : Header) → length (headerBlock h) ≡ 512
@@ -128,15 +128,15 @@ module _ (h : Header) (fit : headerFit h ≡ true) (known : lacksFactor (h .scen
   header-back-over d = ap (λ (l : List ℕ). headerRead l (h .count + 1)) (part-over hb d 512 (header-length h)) ∙ header-back
 
 -- ---- the same of what the call leaves, where it accepts
-accepted-fits : (out : List ℕ) (h : Header) → headerAnswer out h ≡ Accepted → (headerFit h ≡ true) × (lacksFactor (h .scenario) ≡ false)
-unfolding headerAnswer
-accepted-fits out h e =
-    let e₁ = passed (ltb (length out) 512) Room _ Accepted (refused Room (λ z. omega arith)) e .1 in
+accepted-fits : (room : ℕ) (h : Header) → headerRefusal room h ≡ Accepted → (headerFit h ≡ true) × (lacksFactor (h .scenario) ≡ false)
+unfolding headerRefusal
+accepted-fits room h e =
+    let e₁ = passed (ltb room 512) Room _ Accepted (refused Room (λ z. omega arith)) e .1 in
     let e₂ = passed (not (headerFit h)) Field _ Accepted (refused Field (λ z. omega arith)) e₁ in
     (not-false _ (e₂ .0), passed (lacksFactor (h .scenario)) Factor Accepted Accepted (refused Factor (λ z. omega arith)) (e₂ .1) .0)
 
-pub header-call-back : (out : List ℕ) (h : Header) → headerAnswer out h ≡ Accepted → headerRead (partOf (headerLeft out h) 0 512) (h .count + 1) ≡ H.Found h
+pub header-call-back : (out : List ℕ) (h : Header) → headerRefusal (length out) h ≡ Accepted → headerRead (partOf (headerLeft out h) 0 512) (h .count + 1) ≡ H.Found h
 unfolding headerLeft leftBy
 header-call-back out h e =
-    let f = accepted-fits out h e in
+    let f = accepted-fits (length out) h e in
     ap (λ (a : Refusal). headerRead (partOf (leftBy a (headerBlock h) out) 0 512) (h .count + 1)) e ∙ header-back-over h (f .0) (f .1) out

@@ -6,7 +6,8 @@ use lib.ListN.{length}
 use lib.Dec.{eqb, ltb}
 use Rattle.outcome.specs.declared.Refusal.{Refusal}
 use Rattle.outcome.specs.declared.Refusal.the-variants.{Accepted, Field, Factor, Room}
-use Rattle.outcome.specs.Outcome.{numberOf}
+use Rattle.outcome.specs.declared.Answer.{Answer}
+use Rattle.outcome.specs.Outcome.{numberOf, answer}
 use Rattle.words.specs.Bytes.{over}
 use Rattle.inputs.specs.declared.Contaminant.{Contaminant}
 use Rattle.inputs.specs.Rules.{scenarioFits, contaminantFits, lacksFactor}
@@ -22,18 +23,26 @@ headerFit h = inFile (h .count) && scenarioFits (h .scenario) (h .medium)
 unfoldable pub contaminantFit : ℕ → Contaminant → Bool
 contaminantFit place r = inFile place && contaminantFits r
 
-unfoldable pub headerAnswer : List ℕ → Header → Refusal
-headerAnswer out h = cond (ltb (length out) 512) Room (cond (not (headerFit h)) Field (cond (lacksFactor (h .scenario)) Factor Accepted))
+-- what they send back where so many bytes are lent
+unfoldable pub headerRefusal : ℕ → Header → Refusal
+headerRefusal room h = cond (ltb room 512) Room (cond (not (headerFit h)) Field (cond (lacksFactor (h .scenario)) Factor Accepted))
 
-unfoldable pub contaminantAnswer : List ℕ → ℕ → Contaminant → Refusal
-contaminantAnswer out place r = cond (ltb (length out) 512) Room (cond (not (contaminantFit place r)) Field Accepted)
+unfoldable pub contaminantRefusal : ℕ → ℕ → Contaminant → Refusal
+contaminantRefusal room place r = cond (ltb room 512) Room (cond (not (contaminantFit place r)) Field Accepted)
+
+-- a writer's block is always 0
+abbrev pub headerAnswer : ℕ → Header → Answer
+headerAnswer room h = answer (headerRefusal room h) 0
+
+abbrev pub contaminantAnswer : ℕ → ℕ → Contaminant → Answer
+contaminantAnswer room place r = answer (contaminantRefusal room place r) 0
 
 -- what is left where a block was to be written over the first bytes of `out`
 unfoldable pub leftBy : Refusal → List ℕ → List ℕ → List ℕ
-leftBy answer block out = cond (eqb (numberOf answer) 0) (over block out) out
+leftBy refusal block out = cond (eqb (numberOf refusal) 0) (over block out) out
 
 unfoldable pub headerLeft : List ℕ → Header → List ℕ
-headerLeft out h = leftBy (headerAnswer out h) (headerBlock h) out
+headerLeft out h = leftBy (headerRefusal (length out) h) (headerBlock h) out
 
 unfoldable pub contaminantLeft : List ℕ → ℕ → Contaminant → List ℕ
-contaminantLeft out place r = leftBy (contaminantAnswer out place r) (contaminantBlock place r) out
+contaminantLeft out place r = leftBy (contaminantRefusal (length out) place r) (contaminantBlock place r) out

@@ -12,7 +12,7 @@ use Rattle.fields.specs.Fields.{unusedZero}
 use Rattle.block_rules.specs.declared.Header.{Header}
 use Rattle.block_rules.specs.Reading.{headerAt, contaminantAt}
 use Rattle.block_rules.specs.Layouts.{headerBlock, contaminantBlock}
-use Rattle.block_rules.specs.Answers.{headerAnswer, contaminantAnswer, leftBy}
+use Rattle.block_rules.specs.Answers.{headerRefusal, contaminantRefusal, leftBy}
 use Rattle.sum_rules.specs.declared.SumsAnswer.{SumsAnswer}
 use Rattle.sum_rules.specs.Verdict.{verdictNumber}
 
@@ -25,7 +25,7 @@ unfoldable pub headerForm : List ℕ → Bool
 headerForm l = eqb (length l) 104 && unusedZero l 8 12
 
 unfoldable pub headerSent : List ℕ → List ℕ → Refusal
-headerSent out l = cond (ltb (length out) 512) Room (cond (headerForm l) (headerAnswer out (headerAt l 0)) Field)
+headerSent out l = cond (ltb (length out) 512) Room (cond (headerForm l) (headerRefusal out (headerAt l 0)) Field)
 
 unfoldable pub headerPut : List ℕ → List ℕ → List ℕ
 headerPut out l = leftBy (headerSent out l) (headerBlock (headerAt l 0)) out
@@ -35,7 +35,7 @@ unfoldable pub contaminantForm : List ℕ → Bool
 contaminantForm l = eqb (length l) 72 && unusedZero l 8 8
 
 unfoldable pub contaminantSent : List ℕ → ℕ → List ℕ → Refusal
-contaminantSent out place l = cond (ltb (length out) 512) Room (cond (contaminantForm l) (contaminantAnswer out place (contaminantAt l 0)) Field)
+contaminantSent out place l = cond (ltb (length out) 512) Room (cond (contaminantForm l) (contaminantRefusal out place (contaminantAt l 0)) Field)
 
 unfoldable pub contaminantPut : List ℕ → ℕ → List ℕ → List ℕ
 contaminantPut out place l = leftBy (contaminantSent out place l) (contaminantBlock place (contaminantAt l 0)) out
@@ -47,7 +47,7 @@ builtInHeader number medium count = record { medium = medium; count = count; sce
 unfoldable pub builtInSent : List ℕ → ℕ → ℕ → ℕ → Refusal
 builtInSent out number medium count =
     cond (eqb (numberOf (builtInOf number .refusal)) 0)
-    (headerAnswer out (builtInHeader number medium count))
+    (headerRefusal out (builtInHeader number medium count))
     (builtInOf number .refusal)
 
 unfoldable pub builtInPut : List ℕ → ℕ → ℕ → ℕ → List ℕ

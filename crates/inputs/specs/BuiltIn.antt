@@ -45,8 +45,8 @@ noContaminant = record {
 }
 
 abbrev pub accepted : Scenario → BuiltIn
-accepted s = record { refusal = Accepted; scenario = s }
+accepted s = record { refusal = Accepted; block = 0; scenario = s }
 
 -- refusal 11 for any other number
 unfoldable pub builtInOf : ℕ → BuiltIn
-builtInOf n = cond (eqb n 1) (accepted office) (cond (eqb n 2) (accepted archeologist) (cond (eqb n 3) (accepted birdWatcher) (record { refusal = NoScenario; scenario = blank })))
+builtInOf n = cond (eqb n 1) (accepted office) (cond (eqb n 2) (accepted archeologist) (cond (eqb n 3) (accepted birdWatcher) (record { refusal = NoScenario; block = 0; scenario = blank })))

@@ -48,9 +48,10 @@ pub struct Contaminant {
     pub c: Decimal,
 }
 
-// A built-in scenario, or refusal 11 with zero decimals.
+// A built-in scenario, or refusal 11 in block 0 with zero decimals.
 pub struct BuiltIn {
     pub refusal: Refusal,
+    pub block: u32,
     pub scenario: Scenario,
 }
 
@@ -126,23 +127,27 @@ impl Scenario {
         if number == 1 {
             return BuiltIn {
                 refusal: Refusal::Accepted,
+                block: 0,
                 scenario: Scenario::OFFICE_WORKER,
             };
         }
         if number == 2 {
             return BuiltIn {
                 refusal: Refusal::Accepted,
+                block: 0,
                 scenario: Scenario::ARCHEOLOGIST,
             };
         }
         if number == 3 {
             return BuiltIn {
                 refusal: Refusal::Accepted,
+                block: 0,
                 scenario: Scenario::BIRD_WATCHER,
             };
         }
         BuiltIn {
             refusal: Refusal::Scenario,
+            block: 0,
             scenario: Scenario::BLANK,
         }
     }

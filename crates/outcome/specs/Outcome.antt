@@ -1,7 +1,12 @@
 -- The number that paper 01 gives each refusal ("What is sent back"); an accepted call has 0.
 use Prim.Native.Nat.{ℕ}
 use Rattle.outcome.specs.declared.Refusal.{Refusal}
+use Rattle.outcome.specs.declared.Answer.{Answer}
 use Rattle.outcome.specs.declared.Refusal.the-variants.{Accepted, Length, Check, Kind, Field, Count, Factor, Order, Pathway, Range, Room, Scenario}
+
+-- number and block, as they are sent back
+abbrev pub answer : Refusal → ℕ → Answer
+answer n block = record { refusal = n; block = block }
 
 abbrev pub numberOf : Refusal → ℕ
 numberOf Accepted = 0

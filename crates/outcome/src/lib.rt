@@ -1,5 +1,6 @@
 // What a call sends back: accepted, or one of eleven refusals.
 ghost use mathlib.Core.Path.{_≡_};
+ghost use lib.Dec.{eqb};
 ghost use Rattle.outcome.specs.Outcome.{numberOf};
 
 // The word of each refusal, in the order of paper 01's numbers.
@@ -16,6 +17,12 @@ pub enum Refusal {
     Range,
     Room,
     Scenario,
+}
+
+// The answer of a call that has nothing else to say: the refusal and the block that it concerns.
+pub struct Answer {
+    pub refusal: Refusal,
+    pub block: u32,
 }
 
 // The number of a refusal; 0 for an accepted call.
@@ -36,4 +43,11 @@ pub fn number(r: Refusal) -> u32
         Refusal::Room => 10,
         Refusal::Scenario => 11,
     }
+}
+
+// Whether a call has not been refused.
+pub fn accepted(r: Refusal) -> bool
+    ensures { λ b. ⌜ b ≡ eqb (numberOf r) 0 ⌝ }
+{
+    number(r) == 0
 }

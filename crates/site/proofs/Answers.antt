@@ -15,7 +15,7 @@ use Rattle.sum_rules.specs.declared.SumsAnswer.{SumsAnswer}
 use Rattle.sum_rules.specs.Share.{start}
 use Rattle.sum_rules.specs.ListCall.{refused}
 use Rattle.sum_rules.proofs.InRange.{fair-start}
-use Rattle.site.specs.declared.Checked.{Checked}
+use Rattle.outcome.specs.declared.Answer.{Answer}
 use Rattle.site_rules.specs.Site.{walkBlocks, withRoom, siteAnswer}
 use Rattle.site_rules.specs.Results.{resultsOf, siteLeft, recordsFrom, allSums, recordAt}
 use Rattle.site.specs.Check.{checkBlocks, Checking, blocksOf}
@@ -29,7 +29,7 @@ module _ {site : List ℕ} {h : Header} (o : Opened site h) where
   pub checking : Checking (h .scenario) (h .medium) site (h .count)
   checking = record { fits = opened-fits o; known = opened-known o; long = omega (arith, site-long o); most = count-most o }
 
-  abbrev found : Checked
+  abbrev found : Answer
   found = checkBlocks (h .scenario) (h .medium) site (h .count) 1 0
 
   abbrev sums : SumsAnswer

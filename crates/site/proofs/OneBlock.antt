@@ -30,7 +30,7 @@ use Rattle.sums.proofs.Steps.{inputs-of, next-runs, addable}
 use Rattle.site_rules.specs.Site.{blockAt}
 use Rattle.site_rules.specs.Results.{recordAt, resultAt}
 use Rattle.site_rules.specs.Passed.{RecordOk}
-use Rattle.site.specs.Check.{OneMore}
+use Rattle.sums.specs.State.{NextRuns}
 
 -- the contaminant that is read from the middle of a block is its record
 pub read-is : (site : List ℕ) (place : ℕ) (r : Contaminant) → r ≡ contaminantAt (take (512 * place + 508 - (512 * place + 4)) (drop (512 * place + 4) site)) 4 → r ≡ recordAt site place
@@ -82,5 +82,5 @@ module _ {p : Plan} {r : Contaminant} {w : Worked} (ready : PlanReady p) (passed
     pub shares-fit : {n : ℕ} {z : Runs} → n ≤ 121 → RunsReady (632 + n) z → Addable z w (x .sum) (y .sum)
     shares-fit l g = addable can k (u .sum) (v .sum) l g (u .size) (v .size)
 
-    pub one-more : {n : ℕ} {z z′ : Runs} → n ≤ 121 → RunsReady (632 + n) z → Added z w (x .sum) (y .sum) z′ → OneMore p r n z z′
-    one-more l g e = let a = next-runs can k (u .sum) (v .sum) l g e in record { ready = a .ready; risk = a .risk; hazard = a .hazard }
+    pub one-more : {n : ℕ} {z z′ : Runs} → n ≤ 121 → RunsReady (632 + n) z → Added z w (x .sum) (y .sum) z′ → NextRuns p r n z z′
+    one-more l g e = next-runs can k (u .sum) (v .sum) l g e

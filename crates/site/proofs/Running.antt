@@ -10,7 +10,8 @@ use Rattle.sums.specs.Plan.{runningOf, noRuns}
 use Rattle.sums.specs.State.{RunsReady}
 use Rattle.sums.proofs.States.{none-ready}
 use Rattle.site_rules.specs.Results.{recordAt, recordsFrom}
-use Rattle.site.specs.Check.{OneMore, AllAdded}
+use Rattle.sums.specs.State.{NextRuns}
+use Rattle.site.specs.Check.{AllAdded}
 use Rattle.site.proofs.Turns.{run-turn, run-none}
 
 -- the sums x after the first k records
@@ -36,7 +37,7 @@ module _ (p : Plan) (site : List ℕ) (count : ℕ) where
   side-next side k l t u goal e h =
       ap (λ (v : Running). runAll (p .scenario) (p .medium) side v (recordsFrom site (count - (k + 1)) (k + 1 + 1))) e ∙ sym (run-turn (p .scenario) (p .medium) site side count k t l) ∙ h
 
-  pub along-next : (k : ℕ) {x y : Runs} → k < count → Along p site count k x → OneMore p (recordAt site (k + 1)) (k + 1) x y → Along p site count (k + 1) y
+  pub along-next : (k : ℕ) {x y : Runs} → k < count → Along p site count k x → NextRuns p (recordAt site (k + 1)) (k + 1) x y → Along p site count (k + 1) y
   along-next k {x} {y} l h m = record {
     place = omega (arith, l);
     ready = m .ready;

@@ -4,6 +4,7 @@ use mathlib.Core.Bool.{Bool, true, false, cond, _||_}
 use mathlib.Core.List.{List}
 use Prim.Native.Nat.{ℕ, suc, _+_, _-_, _≤_, _<_}
 use native.Mathlib.Omega.{arith}
+use Rattle.outcome.specs.Outcome.{answer}
 use Rattle.outcome.specs.declared.Refusal.{Refusal}
 use Rattle.outcome.specs.declared.Refusal.the-variants.{Accepted, Pathway}
 use Rattle.inputs.specs.declared.Scenario.{Scenario}
@@ -12,40 +13,40 @@ use Rattle.block_rules.specs.declared.ContaminantRead.{ContaminantRead}
 use Rattle.block_rules.specs.declared.ContaminantRead.the-variants as C
 use Rattle.block_rules.specs.Reading.{contaminantRead}
 use Rattle.sum_rules.specs.Share.{Running, next, runAll, hasPathway}
-use Rattle.site.specs.declared.Checked.{Checked}
+use Rattle.outcome.specs.declared.Answer.{Answer}
 use Rattle.site_rules.specs.Site.{blockAt}
 use Rattle.site_rules.specs.Results.{recordAt, recordsFrom}
-use Rattle.site.specs.Check.{checked, afterRead, checkBlocks}
+use Rattle.site.specs.Check.{afterRead, checkBlocks}
 
 module _ (s : Scenario) (medium : ℕ) (site : List ℕ) where
   -- ---- the checking walk
   module _ (n k before : ℕ) (l : k < n) where
-    abbrev found : Contaminant → Checked
-    found r = cond (hasPathway s medium r 0 || hasPathway s medium r 1) (checkBlocks s medium site (n - (k + 1)) (k + 1 + 1) (r .id)) (checked Pathway (k + 1))
+    abbrev found : Contaminant → Answer
+    found r = cond (hasPathway s medium r 0 || hasPathway s medium r 1) (checkBlocks s medium site (n - (k + 1)) (k + 1 + 1) (r .id)) (answer Pathway (k + 1))
 
-    check-turn : checkBlocks s medium site (n - k) (k + 1) before ≡ afterRead (contaminantRead (blockAt site (k + 1)) (k + 1) before) (λ (m : Refusal). checked m (k + 1)) found
+    check-turn : checkBlocks s medium site (n - k) (k + 1) before ≡ afterRead (contaminantRead (blockAt site (k + 1)) (k + 1) before) (λ (m : Refusal). answer m (k + 1)) found
     unfolding checkBlocks
     check-turn =
         let e : n - k ≡ suc (n - (k + 1)) = omega arith in
         ap (λ (j : ℕ). checkBlocks s medium site j (k + 1) before) e
 
-    read-turn : (x : ContaminantRead) → contaminantRead (blockAt site (k + 1)) (k + 1) before ≡ x → checkBlocks s medium site (n - k) (k + 1) before ≡ afterRead x (λ (m : Refusal). checked m (k + 1)) found
-    read-turn x e = check-turn ∙ ap (λ (y : ContaminantRead). afterRead y (λ (m : Refusal). checked m (k + 1)) found) e
+    read-turn : (x : ContaminantRead) → contaminantRead (blockAt site (k + 1)) (k + 1) before ≡ x → checkBlocks s medium site (n - k) (k + 1) before ≡ afterRead x (λ (m : Refusal). answer m (k + 1)) found
+    read-turn x e = check-turn ∙ ap (λ (y : ContaminantRead). afterRead y (λ (m : Refusal). answer m (k + 1)) found) e
 
-    pub turn-refused : (m : Refusal) → contaminantRead (blockAt site (k + 1)) (k + 1) before ≡ C.Refused m → checkBlocks s medium site (n - k) (k + 1) before ≡ checked m (k + 1)
+    pub turn-refused : (m : Refusal) → contaminantRead (blockAt site (k + 1)) (k + 1) before ≡ C.Refused m → checkBlocks s medium site (n - k) (k + 1) before ≡ answer m (k + 1)
     turn-refused m e = read-turn (C.Refused m) e
 
     module _ (r : Contaminant) (e : contaminantRead (blockAt site (k + 1)) (k + 1) before ≡ C.Found r) where
-      by-pathway : (b : Bool) → hasPathway s medium r 0 || hasPathway s medium r 1 ≡ b → checkBlocks s medium site (n - k) (k + 1) before ≡ cond b (checkBlocks s medium site (n - (k + 1)) (k + 1 + 1) (r .id)) (checked Pathway (k + 1))
-      by-pathway b q = read-turn (C.Found r) e ∙ ap (λ (t : Bool). cond t (checkBlocks s medium site (n - (k + 1)) (k + 1 + 1) (r .id)) (checked Pathway (k + 1))) q
+      by-pathway : (b : Bool) → hasPathway s medium r 0 || hasPathway s medium r 1 ≡ b → checkBlocks s medium site (n - k) (k + 1) before ≡ cond b (checkBlocks s medium site (n - (k + 1)) (k + 1 + 1) (r .id)) (answer Pathway (k + 1))
+      by-pathway b q = read-turn (C.Found r) e ∙ ap (λ (t : Bool). cond t (checkBlocks s medium site (n - (k + 1)) (k + 1 + 1) (r .id)) (answer Pathway (k + 1))) q
 
-      pub turn-pathway : hasPathway s medium r 0 || hasPathway s medium r 1 ≡ false → checkBlocks s medium site (n - k) (k + 1) before ≡ checked Pathway (k + 1)
+      pub turn-pathway : hasPathway s medium r 0 || hasPathway s medium r 1 ≡ false → checkBlocks s medium site (n - k) (k + 1) before ≡ answer Pathway (k + 1)
       turn-pathway q = by-pathway false q
 
       pub turn-next : hasPathway s medium r 0 || hasPathway s medium r 1 ≡ true → checkBlocks s medium site (n - k) (k + 1) before ≡ checkBlocks s medium site (n - (k + 1)) (k + 1 + 1) (r .id)
       turn-next q = by-pathway true q
 
-  pub check-none : (n k before : ℕ) → n ≤ k → checkBlocks s medium site (n - k) (k + 1) before ≡ checked Accepted 0
+  pub check-none : (n k before : ℕ) → n ≤ k → checkBlocks s medium site (n - k) (k + 1) before ≡ answer Accepted 0
   unfolding checkBlocks
   check-none n k before l =
       let e : n - k ≡ 0 = omega arith in

@@ -9,7 +9,7 @@ use lib.Dec.{eqb, lit<}
 use borrow.Author.Tests.{ne-eqb}
 use Rattle.outcome.specs.declared.Refusal.{Refusal}
 use Rattle.outcome.specs.declared.Refusal.the-variants.{Pathway, Range}
-use Rattle.outcome.specs.Outcome.{numberOf}
+use Rattle.outcome.specs.Outcome.{numberOf, answer}
 use Rattle.inputs.specs.declared.Scenario.{Scenario}
 use Rattle.inputs.specs.declared.Contaminant.{Contaminant}
 use Rattle.inputs.specs.Rules.{scenarioFits, lacksFactor}
@@ -23,14 +23,14 @@ use Rattle.sum_rules.specs.declared.SumsAnswer.{SumsAnswer}
 use Rattle.sum_rules.specs.Share.{Running, next, runAll, hasPathway}
 use Rattle.sum_rules.specs.ListCall.{blockDecimals, refused, accepted, walk}
 use Rattle.sum_rules.proofs.InRange.{FairRun, fair-next, in-range}
-use Rattle.site.specs.declared.Checked.{Checked}
+use Rattle.outcome.specs.declared.Answer.{Answer}
 use Rattle.site_rules.specs.Site.{blockAt, onContaminant, walkBlocks}
 use Rattle.site_rules.specs.Results.{recordAt, recordsFrom}
 use Rattle.site_rules.proofs.Opened.{found-record, found-is}
-use Rattle.site.specs.Check.{checked, afterRead, checkBlocks}
+use Rattle.site.specs.Check.{afterRead, checkBlocks}
 
 -- what was found, or else the sums
-abbrev pub answerOf : Checked → SumsAnswer → SumsAnswer
+abbrev pub answerOf : Answer → SumsAnswer → SumsAnswer
 answerOf c a = cond (eqb (numberOf (c .refusal)) 0) a (refused (c .refusal) (c .block))
 
 module _ (s : Scenario) (medium : ℕ) (site : List ℕ) where
@@ -40,8 +40,8 @@ module _ (s : Scenario) (medium : ℕ) (site : List ℕ) where
 
   module _ (fits : scenarioFits s medium ≡ true) (known : lacksFactor s ≡ false) where
     -- a block that was found, by whether its contaminant has a pathway
-    by-pathway : (k : ℕ) (c : Checked) (w v : SumsAnswer) (a b : Bool) → b ≡ true → (a ≡ true → w ≡ answerOf c v) →
-        cond a (cond b w (refused Range k)) (refused Pathway k) ≡ answerOf (cond a c (checked Pathway k)) v
+    by-pathway : (k : ℕ) (c : Answer) (w v : SumsAnswer) (a b : Bool) → b ≡ true → (a ≡ true → w ≡ answerOf c v) →
+        cond a (cond b w (refused Range k)) (refused Pathway k) ≡ answerOf (cond a c (answer Pathway k)) v
     by-pathway k c w v true b e h = rw e (h refl)
     by-pathway k c w v false b e h = refl
 
@@ -50,7 +50,7 @@ module _ (s : Scenario) (medium : ℕ) (site : List ℕ) where
         ((id : ℕ) (x y : Running) → FairRun (j + 1) x → FairRun (j + 1) y → walkBlocks s medium site n (k + 1) id x y ≡ answerOf (checkBlocks s medium site n (k + 1) id) (sums x y (recordsFrom site n (k + 1)))) →
         (x : ContaminantRead) → contaminantRead (blockAt site k) k before ≡ x →
         onContaminant x (λ (m : Refusal). refused m k) (λ (r : Contaminant). cond (hasPathway s medium r 0 || hasPathway s medium r 1) (cond (allRanged (blockDecimals s medium 0 risk r) && allRanged (blockDecimals s medium 1 hazard r)) (walkBlocks s medium site n (k + 1) (r .id) (next s medium 0 risk r) (next s medium 1 hazard r)) (refused Range k)) (refused Pathway k)) ≡
-        answerOf (afterRead x (λ (m : Refusal). checked m k) (λ (r : Contaminant). cond (hasPathway s medium r 0 || hasPathway s medium r 1) (checkBlocks s medium site n (k + 1) (r .id)) (checked Pathway k))) (sums risk hazard (recordAt site k ∷ recordsFrom site n (k + 1)))
+        answerOf (afterRead x (λ (m : Refusal). answer m k) (λ (r : Contaminant). cond (hasPathway s medium r 0 || hasPathway s medium r 1) (checkBlocks s medium site n (k + 1) (r .id)) (answer Pathway k))) (sums risk hazard (recordAt site k ∷ recordsFrom site n (k + 1)))
     by-read n k before j risk hazard l f g again (C.Refused m) e = rw (ne-eqb (numberOf m) 0 (contaminant-refused (blockAt site k) k before m e))
     by-read n k before j risk hazard l f g again (C.Found r) e =
         let v = found-record site k before r e .valid in
@@ -61,7 +61,7 @@ module _ (s : Scenario) (medium : ℕ) (site : List ℕ) where
         by-pathway k c (walkBlocks s medium site n (k + 1) (r .id) (next s medium 0 risk r) (next s medium 1 hazard r)) (sums risk hazard (r ∷ rest)) b
         (allRanged (blockDecimals s medium 0 risk r) && allRanged (blockDecimals s medium 1 hazard r)) (in-range s medium fits known r (omega arith) f g v)
         (λ h. again (r .id) (next s medium 0 risk r) (next s medium 1 hazard r) (fair-next s medium 0 (lit< tt) r a (omega arith) f) (fair-next s medium 1 (lit< tt) r a (omega arith) g))
-        ∙ ap (λ (q : Contaminant). answerOf (cond b c (checked Pathway k)) (sums risk hazard (q ∷ rest))) (found-is site k before r e)
+        ∙ ap (λ (q : Contaminant). answerOf (cond b c (answer Pathway k)) (sums risk hazard (q ∷ rest))) (found-is site k before r e)
 
     pub walk-checked : (n k before j : ℕ) (risk hazard : Running) → j + n ≤ 130 → FairRun j risk → FairRun j hazard →
         walkBlocks s medium site n k before risk hazard ≡ answerOf (checkBlocks s medium site n k before) (sums risk hazard (recordsFrom site n k))

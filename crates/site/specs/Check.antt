@@ -4,6 +4,7 @@ use mathlib.Core.Bool.{true, false, _||_, cond}
 use mathlib.Core.List.{List, _++_}
 use Prim.Native.Nat.{ℕ, zero, suc, _+_, _*_, _≤_, _<_}
 use lib.ListN.{length}
+use Rattle.outcome.specs.Outcome.{answer}
 use Rattle.outcome.specs.declared.Refusal.{Refusal}
 use Rattle.outcome.specs.declared.Refusal.the-variants.{Accepted, Pathway}
 use Rattle.inputs.specs.declared.Scenario.{Scenario}
@@ -19,25 +20,22 @@ use Rattle.sum_rules.specs.declared.SumsAnswer.{SumsAnswer}
 use Rattle.sum_rules.specs.Share.{start, next, runAll, hasPathway}
 use Rattle.sums.specs.Plan.{PlanReady, PlanFits, runningOf}
 use Rattle.sums.specs.State.{RunsReady}
-use Rattle.site.specs.declared.Checked.{Checked}
+use Rattle.outcome.specs.declared.Answer.{Answer}
 use Rattle.block_rules.specs.Layouts.{summaryBlock}
 use Rattle.site_rules.specs.Site.{blockAt}
 use Rattle.site_rules.specs.Results.{recordAt, resultsTo, recordsFrom}
 use Rattle.site_rules.specs.Passed.{RecordOk}
 
-abbrev pub checked : Refusal → ℕ → Checked
-checked n block = record { refusal = n; block = block }
-
-abbrev pub afterRead : ContaminantRead → (Refusal → Checked) → (Contaminant → Checked) → Checked
+abbrev pub afterRead : ContaminantRead → (Refusal → Answer) → (Contaminant → Answer) → Answer
 afterRead (C.Refused n) f g = f n
 afterRead (C.Found r) f g = g r
 
 -- as `walkBlocks`, but for the sums and condition 9, which cannot hold
-unfoldable pub checkBlocks : Scenario → ℕ → List ℕ → ℕ → ℕ → ℕ → Checked
-checkBlocks s medium site zero k before = checked Accepted 0
+unfoldable pub checkBlocks : Scenario → ℕ → List ℕ → ℕ → ℕ → ℕ → Answer
+checkBlocks s medium site zero k before = answer Accepted 0
 checkBlocks s medium site (suc n) k before =
-    afterRead (contaminantRead (blockAt site k) k before) (λ (m : Refusal). checked m k)
-    (λ (r : Contaminant). cond (hasPathway s medium r 0 || hasPathway s medium r 1) (checkBlocks s medium site n (k + 1) (r .id)) (checked Pathway k))
+    afterRead (contaminantRead (blockAt site k) k before) (λ (m : Refusal). answer m k)
+    (λ (r : Contaminant). cond (hasPathway s medium r 0 || hasPathway s medium r 1) (checkBlocks s medium site n (k + 1) (r .id)) (answer Pathway k))
 
 -- a site of so many contaminants whose scenario and medium passed
 pub record Checking (s : Scenario) (medium : ℕ) (site : List ℕ) (count : ℕ) : Type 0 where
@@ -64,12 +62,6 @@ pub record WritingOne (p : Plan) (site : List ℕ) (place : ℕ) (x : Runs) : Ty
   pub runs : RunsReady (632 + place) x
 
 -- ---- what they promise
--- the sums after one more record
-pub record OneMore (p : Plan) (r : Contaminant) (place : ℕ) (x y : Runs) : Type 0 where
-  pub ready : RunsReady (632 + (place + 1)) y
-  pub risk : runningOf (y .risk) ≡ next (p .scenario) (p .medium) 0 (runningOf (x .risk)) r
-  pub hazard : runningOf (y .hazard) ≡ next (p .scenario) (p .medium) 1 (runningOf (x .hazard)) r
-
 -- the sums over all records
 pub record AllAdded (p : Plan) (site : List ℕ) (count : ℕ) (y : Runs) : Type 0 where
   pub ready : RunsReady (632 + (count + 1)) y

@@ -3,6 +3,7 @@ use block_rules::ContaminantRead;
 use block_rules::Header;
 use block_rules::HeaderRead;
 use inputs::Scenario;
+use outcome::Answer;
 use outcome::Refusal;
 use sum_rules::SumsAnswer;
 use sums::shares::Plan;
@@ -14,14 +15,9 @@ ghost use lib.ListN.{length, take};
 ghost use Rattle.words.specs.Bytes.{over};
 ghost use Rattle.site_rules.specs.Site.{lengthOk, siteAnswer};
 ghost use Rattle.site_rules.specs.Results.{recordAt, resultAt, resultsTo, siteLeft, recordsFrom, allSums};
-ghost use Rattle.site.specs.Check.{checkBlocks, Checking, Writing, WritingOne, OneMore, AllAdded, blocksOf};
+ghost use Rattle.site.specs.Check.{checkBlocks, Checking, Writing, WritingOne, AllAdded, blocksOf};
 ghost use Rattle.site_rules.specs.Passed.{Opened};
-
-// What the checking walk found: no refusal, or the first one and its block.
-pub struct Checked {
-    pub refusal: Refusal,
-    pub block: u32,
-}
+ghost use Rattle.sums.specs.State.{NextRuns};
 
 // Whether a site may have so many bytes.
 fn length_ok(n: usize) -> bool
@@ -33,7 +29,7 @@ fn length_ok(n: usize) -> bool
 
 // The first refusal of the contaminant blocks, in their order. Refusal 8 depends on zero fields only, so no term is
 // worked out before the whole site is checked.
-fn check_blocks(site: &[u8], s: Scenario, medium: u32, count: u32) -> Checked
+fn check_blocks(site: &[u8], s: Scenario, medium: u32, count: u32) -> Answer
     requires { ⌜ Checking s medium (now site) count ⌝ }
     ensures { λ c. ⌜ c ≡ checkBlocks s medium (now (site .entry)) count 1 0 ⌝ }
 {
@@ -44,14 +40,14 @@ fn check_blocks(site: &[u8], s: Scenario, medium: u32, count: u32) -> Checked
         let at = 512 * (place as usize);
         match blocks::read_contaminant(site, at, place, previous) {
             ContaminantRead::Refused(m) => {
-                return Checked {
+                return Answer {
                     refusal: m,
                     block: place,
                 };
             }
             ContaminantRead::Found(r) => {
                 if !presence::has_pathway(s, medium, r) {
-                    return Checked {
+                    return Answer {
                         refusal: Refusal::Pathway,
                         block: place,
                     };
@@ -61,7 +57,7 @@ fn check_blocks(site: &[u8], s: Scenario, medium: u32, count: u32) -> Checked
         }
         k += 1;
     }
-    Checked {
+    Answer {
         refusal: Refusal::Accepted,
         block: 0,
     }
@@ -70,7 +66,7 @@ fn check_blocks(site: &[u8], s: Scenario, medium: u32, count: u32) -> Checked
 // Works out the contaminant of one block, writes its result block and adds its shares to the sums.
 fn put_block(site: &[u8], p: Plan, place: u32, x: Runs, out: &mut [u8]) -> Runs
     requires { ⌜ WritingOne p (now site) place x × (512 ≤ length (now out)) ⌝ }
-    ensures { λ y. ⌜ OneMore p (recordAt (now (site .entry)) place) place x y × (now (out .exit) ≡ over (resultAt (p .scenario) (p .medium) (now (site .entry)) place) (now (out .entry))) ⌝ }
+    ensures { λ y. ⌜ NextRuns p (recordAt (now (site .entry)) place) place x y × (now (out .exit) ≡ over (resultAt (p .scenario) (p .medium) (now (site .entry)) place) (now (out .entry))) ⌝ }
 {
     let at = 512 * (place as usize);
     let from = at + 4;
@@ -123,13 +119,13 @@ fn evaluate_blocks(site: &[u8], h: Header, out: &mut [u8]) -> SumsAnswer
     let count = h.count;
     let c = check_blocks(site, s, h.medium, count);
     let refusal = c.refusal;
-    if !sums::shares::accepted(refusal) {
+    if !outcome::accepted(refusal) {
         return sums::refused(refusal, c.block);
     }
     if out.len() < site.len() {
         return sums::refused(Refusal::Room, 0);
     }
-    let p = sums::shares::begin(s, h.medium, count as usize);
+    let p = sums::shares::planned(s, h.medium, Refusal::Accepted);
     put_results(site, p, count, out)
 }
 

@@ -1,5 +1,6 @@
 pub mod SameWalk
 pub mod States
+pub mod Comparisons
 pub mod NextSums
 pub mod Steps
 pub mod Started

@@ -27,7 +27,7 @@ use Rattle.sums.specs.declared.shares.Runs.{Runs}
 use Rattle.sums.specs.declared.State.{State}
 use Rattle.sum_rules.specs.Share.{Running, next, hasPathway}
 use Rattle.sums.specs.Plan.{Workable, WorkedFor, runningOf, RunSize, Addable, Added}
-use Rattle.sums.specs.State.{steps, answerFrom, SideReady, RunsReady, Stepped, movedOf, Advancing}
+use Rattle.sums.specs.State.{steps, answerFrom, SideReady, RunsReady, Stepped, movedOf, Advancing, NextRuns}
 use Rattle.sums.proofs.NextSums.{SideTerms, next-ready, next-is}
 
 pub inputs-of : {p : Plan} {r : Contaminant} → Workable p r → Accepted (p .scenario) (p .medium) r
@@ -43,12 +43,6 @@ ready-size h k = record {
   lower = record { most = k .lower .most; low = omega (arith, k .lower .low); high = omega (arith, k .lower .high) };
   upper = record { most = k .upper .most; low = omega (arith, k .upper .low); high = omega (arith, k .upper .high) };
 }
-
--- ---- the sums after one more record
-pub record NextRuns (s : Scenario) (medium : ℕ) (r : Contaminant) (n : ℕ) (x y : Runs) : Type 0 where
-  pub ready : RunsReady (632 + (n + 1)) y
-  pub risk : runningOf (y .risk) ≡ next s medium 0 (runningOf (x .risk)) r
-  pub hazard : runningOf (y .hazard) ≡ next s medium 1 (runningOf (x .hazard)) r
 
 module _ {p : Plan} {r : Contaminant} {w : Worked} (h : Workable p r) (k : WorkedFor p r w) where
   pub concentration : Input (w .c)
@@ -76,7 +70,7 @@ module _ {p : Plan} {r : Contaminant} {w : Worked} (h : Workable p r) (k : Worke
       c = c-stands;
     }
 
-    pub next-runs : {n : ℕ} {x y : Runs} → n ≤ 121 → RunsReady (632 + n) x → Added x w a b y → NextRuns (p .scenario) (p .medium) r n x y
+    pub next-runs : {n : ℕ} {x y : Runs} → n ≤ 121 → RunsReady (632 + n) x → Added x w a b y → NextRuns p r n x y
     next-runs {n} {x} {y} l g e =
         let low : 631 ≤ 632 + n = omega arith in
         let high : 632 + n ≤ 900 = omega (arith, l) in
@@ -116,7 +110,7 @@ module _ {p : Plan} {t : State} {r : Contaminant} (h : Advancing p t r) where
   unfolding steps
   steps-next rs e = rw (h .fits, h .rising, e)
 
-  module _ {y : Runs} (n : NextRuns (p .scenario) (p .medium) r (t .place) (t .runs) y) where
+  module _ {y : Runs} (n : NextRuns p r (t .place) (t .runs) y) where
     moved-answer : (rs : List Contaminant) → hasPathway (p .scenario) (p .medium) r 0 || hasPathway (p .scenario) (p .medium) r 1 ≡ true → answerFrom p t (r ∷ rs) ≡ answerFrom p (movedOf t (r .id) y) rs
     moved-answer rs e =
         accepted-answer t (r ∷ rs) (h .accepted) ∙ steps-next rs e ∙

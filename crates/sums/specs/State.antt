@@ -5,6 +5,7 @@ use mathlib.Core.List.{List, [], _∷_}
 use Prim.Native.Nat.{ℕ, _+_, _≤_}
 use lib.Dec.{eqb, leb}
 use lib.ListN.{length}
+use Rattle.rounding.specs.declared.Number.{Number}
 use Rattle.decimal.specs.declared.Decimal.{Decimal}
 use Rattle.decimal.specs.Decimal.{decimalOf, workingOf}
 use Rattle.outcome.specs.declared.Refusal.{Refusal}
@@ -56,6 +57,12 @@ pub record RunsReady (w : ℕ) (x : Runs) : Type 0 where
   pub risk : SideReady w (x .risk)
   pub hazard : SideReady w (x .hazard)
 
+-- the sums y after x and the record r at a place
+pub record NextRuns (p : Plan) (r : Contaminant) (place : ℕ) (x y : Runs) : Type 0 where
+  pub ready : RunsReady (632 + (place + 1)) y
+  pub risk : runningOf (y .risk) ≡ next (p .scenario) (p .medium) 0 (runningOf (x .risk)) r
+  pub hazard : runningOf (y .hazard) ≡ next (p .scenario) (p .medium) 1 (runningOf (x .hazard)) r
+
 -- what every state keeps
 pub record Good (p : Plan) (t : State) : Type 0 where
   pub ready : PlanReady p
@@ -86,8 +93,17 @@ pub record Advancing (p : Plan) (t : State) (r : Contaminant) : Type 0 where
   pub fits : contaminantFits r ≡ true
   pub rising : leb (r .id) (t .previous) ≡ false
 
+-- a number that can be compared by its worth
+abbrev pub Comparable : Number → Type 0
+Comparable r = Stands 753 r (decimalOf r)
+
+-- the sums of a side with its target in working form
 abbrev pub sideSumsOf : SideRun → Decimal → SideSums
-sideSumsOf x target = record { lower = decimalOf (x .lower); upper = decimalOf (x .upper); verdict = verdictOf (x .any) (decimalOf (x .lower)) (decimalOf (x .upper)) (workingOf target) }
+sideSumsOf x target = record {
+  lower = decimalOf (x .lower);
+  upper = decimalOf (x .upper);
+  verdict = verdictOf (x .any) (decimalOf (x .lower)) (decimalOf (x .upper)) target;
+}
 
 abbrev pub reportedOf : Scenario → Runs → SumsAnswer
-reportedOf s x = record { refusal = Accepted; block = 0; risk = sideSumsOf (x .risk) (s .tr); hazard = sideSumsOf (x .hazard) (s .thi) }
+reportedOf s x = record { refusal = Accepted; block = 0; risk = sideSumsOf (x .risk) (workingOf (s .tr)); hazard = sideSumsOf (x .hazard) (workingOf (s .thi)) }

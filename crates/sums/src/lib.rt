@@ -4,11 +4,11 @@ pub mod shares;
 use crate::shares::Plan;
 use crate::shares::Runs;
 use crate::shares::SideRun;
-use crate::shares::accepted;
 use decimal::Decimal;
 use inputs::Contaminant;
 use inputs::contaminant_fits;
 use outcome::Refusal;
+use outcome::accepted;
 use presence::has_pathway;
 use rounding::Direction;
 use rounding::Number;
@@ -21,8 +21,9 @@ ghost use mathlib.Core.List.{[]};
 ghost use Prim.Native.Nat.{_≤_};
 ghost use Rattle.sum_rules.specs.Verdict.{verdictNumber, verdictOf};
 ghost use Rattle.sum_rules.specs.ListCall.{refused as refusedOf};
-ghost use Rattle.sums.specs.Plan.{RunSize, noRuns};
-ghost use Rattle.sums.specs.State.{Good, Stepped, answerFrom, firstOf, refuseOf, movedOf, Advancing, sideSumsOf, reportedOf};
+ghost use Rattle.decimal.specs.Decimal.{decimalOf};
+ghost use Rattle.sums.specs.Plan.{PlanReady, noRuns};
+ghost use Rattle.sums.specs.State.{Good, Stepped, answerFrom, firstOf, refuseOf, movedOf, Advancing, Comparable, SideReady, RunsReady, sideSumsOf, reportedOf};
 
 // The state of the list call between two records: the place of the next record and the id before it; a refusal and its
 // block, once there is one; the running sums.
@@ -47,9 +48,10 @@ pub fn verdict_number(v: Verdict) -> u32
     }
 }
 
-// The verdict of a side from its sums and its target.
-pub fn judge(any: bool, lower: Decimal, upper: Decimal, target: Decimal) -> Verdict
-    ensures { λ v. ⌜ v ≡ verdictOf any lower upper target ⌝ }
+// The verdict of a side from its sums and its target, all as numbers.
+fn judge(any: bool, lower: Number, upper: Number, target: Number) -> Verdict
+    requires { ⌜ Comparable lower × (Comparable upper × Comparable target) ⌝ }
+    ensures { λ v. ⌜ v ≡ verdictOf any (decimalOf lower) (decimalOf upper) (decimalOf target) ⌝ }
 {
     if any {
         if upper.at_most(target) {
@@ -158,30 +160,28 @@ pub fn step(p: Plan, t: State, r: Contaminant) -> State
 }
 
 // The sums of a side as decimals, with the verdict.
-fn side_sums(x: SideRun, target: Decimal) -> SideSums
-    requires { ⌜ RunSize x ⌝ }
-    ensures { λ r. ⌜ r ≡ sideSumsOf x target ⌝ }
+fn side_sums(x: SideRun, target: Number) -> SideSums
+    requires { ⌜ SideReady 753 x × Comparable target ⌝ }
+    ensures { λ r. ⌜ r ≡ sideSumsOf x (decimalOf target) ⌝ }
 {
-    let lower = decimal::unbiased(x.lower);
-    let upper = decimal::unbiased(x.upper);
     SideSums {
-        lower,
-        upper,
-        verdict: judge(x.any, lower, upper, target.working()),
+        lower: decimal::unbiased(x.lower),
+        upper: decimal::unbiased(x.upper),
+        verdict: judge(x.any, x.lower, x.upper, target),
     }
 }
 
 // The answer of a call that is accepted: the sums of both sides.
 pub fn reported(p: Plan, x: Runs) -> SumsAnswer
-    requires { ⌜ RunSize (x .risk) × RunSize (x .hazard) ⌝ }
+    requires { ⌜ PlanReady p × RunsReady 753 x ⌝ }
     ensures { λ a. ⌜ a ≡ reportedOf (p .scenario) x ⌝ }
 {
-    let s = p.scenario;
+    let f = p.up.factors;
     SumsAnswer {
         refusal: Refusal::Accepted,
         block: 0,
-        risk: side_sums(x.risk, s.tr),
-        hazard: side_sums(x.hazard, s.thi),
+        risk: side_sums(x.risk, f.tr),
+        hazard: side_sums(x.hazard, f.thi),
     }
 }
 

@@ -4,6 +4,7 @@ use inputs::Scenario;
 use inputs::lacks_factor;
 use inputs::scenario_fits;
 use outcome::Refusal;
+use outcome::accepted;
 use presence::either;
 use rounding::Direction;
 use rounding::Number;
@@ -12,8 +13,6 @@ use terms::pathways::total;
 use terms::prepared::Prepared;
 ghost use mathlib.Core.Path.{_≡_};
 ghost use mathlib.Core.Bool.{true};
-ghost use lib.Dec.{eqb};
-ghost use Rattle.outcome.specs.Outcome.{numberOf};
 ghost use Rattle.inputs.specs.Inputs.{scenarioDecimals};
 ghost use Rattle.inputs.specs.Valid.{allValid};
 ghost use Rattle.inputs.specs.Rules.{OneOrTwo};
@@ -72,15 +71,8 @@ fn first_refusal(s: Scenario, medium: u32, n: usize) -> Refusal
     Refusal::Accepted
 }
 
-// Whether a call has not been refused.
-pub fn accepted(r: Refusal) -> bool
-    ensures { λ b. ⌜ b ≡ eqb (numberOf r) 0 ⌝ }
-{
-    outcome::number(r) == 0
-}
-
 // The plan of a scenario and a medium that keep their rules.
-fn planned(s: Scenario, medium: u32, refusal: Refusal) -> Plan
+pub fn planned(s: Scenario, medium: u32, refusal: Refusal) -> Plan
     requires { ⌜ (allValid (scenarioDecimals s) ≡ true) × OneOrTwo medium ⌝ }
     ensures { λ p. ⌜ Planned s medium refusal p ⌝ }
 {

@@ -1,57 +1,31 @@
--- What a writer sends back and leaves once each test has gone one way or the other. Assumes nothing.
-use mathlib.Core.Path.{_≡_, refl, sym, ap, _∙_}
+-- What a writer leaves, by whether it is accepted; and an accepted writer has room for a block. Assumes nothing.
+use mathlib.Core.Path.{_≡_, refl, ap}
+use mathlib.Core.Bool.{Bool, true, false, cond}
 use mathlib.Core.List.{List}
-use mathlib.Core.Bool.{true, false}
-use Prim.Native.Nat.{ℕ}
-use lib.ListN.{length}
-use lib.Dec.{ltb}
+use Prim.Native.Nat.{ℕ, _≤_}
+use native.Mathlib.Omega.{arith}
+use lib.Dec.{eqb, ltb}
+use borrow.Author.Tests.{eqb-true, ltb-false}
 use Rattle.outcome.specs.declared.Refusal.{Refusal}
-use Rattle.outcome.specs.declared.Refusal.the-variants.{Accepted, Field, Factor, Room}
+use Rattle.outcome.specs.declared.Refusal.the-variants.{Room}
+use Rattle.outcome.specs.Outcome.{numberOf, answer}
 use Rattle.words.specs.Bytes.{over}
-use Rattle.inputs.specs.declared.Contaminant.{Contaminant}
-use Rattle.inputs.specs.Rules.{lacksFactor}
-use Rattle.block_rules.specs.declared.Header.{Header}
-use Rattle.block_rules.specs.Layouts.{headerBlock, contaminantBlock}
-use Rattle.block_rules.specs.Answers.{headerFit, contaminantFit, headerAnswer, contaminantAnswer, leftBy, headerLeft, contaminantLeft}
+use Rattle.block_rules.specs.Answers.{leftBy}
 
-module _ (out : List ℕ) (h : Header) where
-  -- the answer, and what is left by it
-  header-as : (a : Refusal) (l : List ℕ) → headerAnswer out h ≡ a → l ≡ leftBy a (headerBlock h) out → (a ≡ headerAnswer out h) × (l ≡ headerLeft out h)
-  unfolding headerLeft
-  header-as a l e f = (sym e, f ∙ ap (λ (x : Refusal). leftBy x (headerBlock h) out) (sym e))
+-- m is what the tests sent back, and n what they are to send back
+module _ {m n : Refusal} (block out : List ℕ) (e : m ≡ n) where
+  pub sent-refused : eqb (numberOf m) 0 ≡ false → (answer m 0 ≡ answer n 0) × (out ≡ leftBy n block out)
+  unfolding leftBy
+  sent-refused f = (ap (λ (x : Refusal). answer x 0) e, rw (← e, f))
 
-  pub header-room : ltb (length out) 512 ≡ true → (Room ≡ headerAnswer out h) × (out ≡ headerLeft out h)
-  unfolding headerAnswer leftBy
-  header-room n = header-as Room out (simp n) refl
+  pub sent-written : {left : List ℕ} → eqb (numberOf m) 0 ≡ true → left ≡ over block out → (answer m 0 ≡ answer n 0) × (left ≡ leftBy n block out)
+  unfolding leftBy
+  sent-written f w = (ap (λ (x : Refusal). answer x 0) e, rw (← e, f) w)
 
-  pub header-field : ltb (length out) 512 ≡ false → headerFit h ≡ false → (Field ≡ headerAnswer out h) × (out ≡ headerLeft out h)
-  unfolding headerAnswer leftBy
-  header-field n f = header-as Field out (simp (n, f)) refl
-
-  pub header-factor : ltb (length out) 512 ≡ false → headerFit h ≡ true → lacksFactor (h .scenario) ≡ true → (Factor ≡ headerAnswer out h) × (out ≡ headerLeft out h)
-  unfolding headerAnswer leftBy
-  header-factor n f k = header-as Factor out (simp (n, f, k)) refl
-
-  pub header-written : (l : List ℕ) → ltb (length out) 512 ≡ false → headerFit h ≡ true → lacksFactor (h .scenario) ≡ false → l ≡ over (headerBlock h) out
-      → (Accepted ≡ headerAnswer out h) × (l ≡ headerLeft out h)
-  unfolding headerAnswer leftBy
-  header-written l n f k e = header-as Accepted l (simp (n, f, k)) e
-
-module _ (out : List ℕ) (place : ℕ) (r : Contaminant) where
-  contaminant-as : (a : Refusal) (l : List ℕ) → contaminantAnswer out place r ≡ a → l ≡ leftBy a (contaminantBlock place r) out
-      → (a ≡ contaminantAnswer out place r) × (l ≡ contaminantLeft out place r)
-  unfolding contaminantLeft
-  contaminant-as a l e f = (sym e, f ∙ ap (λ (x : Refusal). leftBy x (contaminantBlock place r) out) (sym e))
-
-  pub contaminant-room : ltb (length out) 512 ≡ true → (Room ≡ contaminantAnswer out place r) × (out ≡ contaminantLeft out place r)
-  unfolding contaminantAnswer leftBy
-  contaminant-room n = contaminant-as Room out (simp n) refl
-
-  pub contaminant-field : ltb (length out) 512 ≡ false → contaminantFit place r ≡ false → (Field ≡ contaminantAnswer out place r) × (out ≡ contaminantLeft out place r)
-  unfolding contaminantAnswer leftBy
-  contaminant-field n f = contaminant-as Field out (simp (n, f)) refl
-
-  pub contaminant-written : (l : List ℕ) → ltb (length out) 512 ≡ false → contaminantFit place r ≡ true → l ≡ over (contaminantBlock place r) out
-      → (Accepted ≡ contaminantAnswer out place r) × (l ≡ contaminantLeft out place r)
-  unfolding contaminantAnswer leftBy
-  contaminant-written l n f e = contaminant-as Accepted l (simp (n, f)) e
+-- the room is tested first
+pub room-there : (room : ℕ) (rest : Refusal) → eqb (numberOf (cond (ltb room 512) Room rest)) 0 ≡ true → 512 ≤ room
+room-there room rest h = cases (ltb room 512) refl h
+  where
+    cases : (b : Bool) → ltb room 512 ≡ b → eqb (numberOf (cond b Room rest)) 0 ≡ true → 512 ≤ room
+    cases false e f = ltb-false room 512 e
+    cases true e f = absurd (let z = eqb-true 10 0 f in omega (arith, z))

@@ -2,6 +2,7 @@
 use block_rules::Header;
 use guideline_rules::SideGuidelines;
 use inputs::Contaminant;
+use outcome::Answer;
 use outcome::Refusal;
 use sum_rules::SideSums;
 ghost use mathlib.Core.Path.{_≡_};
@@ -9,7 +10,7 @@ ghost use Prim.Native.Nat.{_≤_};
 ghost use lib.ListN.{length};
 ghost use Rattle.words.specs.Bytes.{placed, le4, over};
 ghost use Rattle.block_rules.specs.Layouts.{lastWord, firstWords, headerBlock, contaminantBlock, resultBlock, summaryBlock};
-ghost use Rattle.block_rules.specs.Answers.{headerFit, contaminantFit, headerAnswer, headerLeft, contaminantAnswer, contaminantLeft};
+ghost use Rattle.block_rules.specs.Answers.{headerFit, contaminantFit, headerRefusal, headerAnswer, headerLeft, contaminantRefusal, contaminantAnswer, contaminantLeft};
 
 // Writes the last word, so that all 128 words add to zero.
 fn put_last_word(out: &mut [u8])
@@ -114,11 +115,11 @@ fn contaminant_fit(place: u32, r: Contaminant) -> bool
     inputs::both(blocks::in_file(place), inputs::contaminant_fits(r))
 }
 
-// Writes a header's block, or refuses it and writes nothing.
-pub fn write_header(out: &mut [u8], h: Header) -> Refusal
-    ensures { λ a. ⌜ (a ≡ headerAnswer (now (out .entry)) h) × (now (out .exit) ≡ headerLeft (now (out .entry)) h) ⌝ }
+// What the writer of kind 1 sends back where so many bytes are lent: 10, 4, 6.
+fn header_refusal(room: usize, h: Header) -> Refusal
+    ensures { λ n. ⌜ n ≡ headerRefusal room h ⌝ }
 {
-    if out.len() < 512 {
+    if room < 512 {
         return Refusal::Room;
     }
     if !header_fit(h) {
@@ -128,20 +129,42 @@ pub fn write_header(out: &mut [u8], h: Header) -> Refusal
     if inputs::lacks_factor(s) {
         return Refusal::Factor;
     }
-    put_header(out, h);
     Refusal::Accepted
 }
 
-// Writes a contaminant's block, or refuses it and writes nothing.
-pub fn write_contaminant(out: &mut [u8], place: u32, r: Contaminant) -> Refusal
-    ensures { λ a. ⌜ (a ≡ contaminantAnswer (now (out .entry)) place r) × (now (out .exit) ≡ contaminantLeft (now (out .entry)) place r) ⌝ }
+// What the writer of kind 2 sends back where so many bytes are lent: 10, 4.
+fn contaminant_refusal(room: usize, place: u32, r: Contaminant) -> Refusal
+    ensures { λ n. ⌜ n ≡ contaminantRefusal room place r ⌝ }
 {
-    if out.len() < 512 {
+    if room < 512 {
         return Refusal::Room;
     }
     if !contaminant_fit(place, r) {
         return Refusal::Field;
     }
-    put_contaminant(out, place, r);
     Refusal::Accepted
+}
+
+// Writes a header's block, or refuses it and writes nothing. The block of the answer is always 0.
+pub fn write_header(out: &mut [u8], h: Header) -> Answer
+    ensures { λ a. ⌜ (a ≡ headerAnswer (length (now (out .entry))) h) × (now (out .exit) ≡ headerLeft (now (out .entry)) h) ⌝ }
+{
+    let refusal = header_refusal(out.len(), h);
+    if !outcome::accepted(refusal) {
+        return Answer { refusal, block: 0 };
+    }
+    put_header(out, h);
+    Answer { refusal, block: 0 }
+}
+
+// Writes a contaminant's block, or refuses it and writes nothing. The block of the answer is always 0.
+pub fn write_contaminant(out: &mut [u8], place: u32, r: Contaminant) -> Answer
+    ensures { λ a. ⌜ (a ≡ contaminantAnswer (length (now (out .entry))) place r) × (now (out .exit) ≡ contaminantLeft (now (out .entry)) place r) ⌝ }
+{
+    let refusal = contaminant_refusal(out.len(), place, r);
+    if !outcome::accepted(refusal) {
+        return Answer { refusal, block: 0 };
+    }
+    put_contaminant(out, place, r);
+    Answer { refusal, block: 0 }
 }

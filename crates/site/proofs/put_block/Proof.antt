@@ -11,7 +11,7 @@ use Rattle.words.specs.Bytes.{over}
 use Rattle.words.proofs.Written.{over-length}
 use Rattle.block_rules.specs.Layouts.{resultBlock}
 use Rattle.block_rules.proofs.ResultsBack.{result-length}
-use Rattle.site.specs.Check.{OneMore}
+use Rattle.sums.specs.State.{NextRuns}
 use Rattle.site.proofs.OneBlock.{read-is, read-ok, block-is, block-wide, risk-printable, hazard-printable, guideline-is, shares-fit, one-more}
 use borrow.Author.Needs.{needs}
 use Rattle.site.proofs.put_block.Statement.{statement}
@@ -72,7 +72,7 @@ returns c =
     let ok = read-ok site place (c .before .before .before .before .before .before .before .before .before .before .before .before .before .pre .0 .ok) (c .before .before .before .before .before .before .before .before .before .get-contaminant .ensures) in
     let g = guideline-is (c .before .before .before .before .before .before .before .before .before .before .before .before .before .pre .0 .ready) (c .before .before .before .before .before .before .before .before .before .before .before .before .before .pre .0 .passed) ok (c .before .before .before .before .before .before .before .before .work .ensures) (c .before .before .before .before .before .before .before .columns-of .ensures .0) (c .before .before .before .before .before .before .before .columns-of .ensures .1) in
     let m = one-more (c .before .before .before .before .before .before .before .before .before .before .before .before .before .pre .0 .ready) (c .before .before .before .before .before .before .before .before .before .before .before .before .before .pre .0 .passed) ok (c .before .before .before .before .before .before .before .before .work .ensures) (c .before .before .before .before .before .before .before .columns-of .ensures .0) (c .before .before .before .before .before .before .before .columns-of .ensures .1) (omega (arith, c .before .before .before .before .before .before .before .before .before .before .before .before .before .pre .0 .most)) (c .before .before .before .before .before .before .before .before .before .before .before .before .before .pre .0 .runs) (c .add-shares .ensures) in (
-      subst (λ (x : Contaminant). OneMore (c .before .before .before .before .before .before .before .before .before .before .before .before .before .args .p) x place (c .before .before .before .before .before .before .before .before .before .before .before .before .before .args .x) (c .add-shares .result)) q m,
+      subst (λ (x : Contaminant). NextRuns (c .before .before .before .before .before .before .before .before .before .before .before .before .before .args .p) x place (c .before .before .before .before .before .before .before .before .before .before .before .before .before .args .x) (c .add-shares .result)) q m,
       c .before .before .before .put-result .ensures ∙ ap₂ (λ (x y : SideGuidelines). over (resultBlock place (r .class) (r .id) x y) (c .before .before .before .before .before .before .before .before .before .before .before .before .before .args .out .now)) (c .before .before .before .before .before .before .decimals .ensures) (c .before .before .before .before .before .decimals2 .ensures) ∙ ap (λ (b : List ℕ). over b (c .before .before .before .before .before .before .before .before .before .before .before .before .before .args .out .now)) (block-is (c .before .before .before .before .before .before .before .before .before .before .before .before .before .args .p .scenario) (c .before .before .before .before .before .before .before .before .before .before .before .before .before .args .p .medium) site place r _ _ q g),
     )
 

@@ -10,7 +10,7 @@ use Rattle.words.proofs.Written.{over-length}
 use Rattle.block_rules.specs.Layouts.{summaryBlock}
 use Rattle.block_rules.proofs.ResultsBack.{summary-length}
 use Rattle.sum_rules.specs.ListCall.{accepted}
-use Rattle.sums.proofs.Steps.{ready-size}
+use Rattle.sums.proofs.Comparisons.{runs-comparable}
 use Rattle.site_rules.specs.Results.{resultsTo}
 use Rattle.site_rules.proofs.OutputBlocks.{results-long}
 use Rattle.site.proofs.Output.{summary-lent}
@@ -39,7 +39,9 @@ put-blocks-requires : tie.Need-put-blocks-requires
 put-blocks-requires c κs = c .before .before .before .pre
 
 reported-requires : tie.Need-reported-requires
-reported-requires c κs = (ready-size (omega (arith, c .before .before .before .before .before .before .pre .0 .most)) (c .before .before .put-blocks .ensures .0 .ready .risk), ready-size (omega (arith, c .before .before .before .before .before .before .pre .0 .most)) (c .before .before .put-blocks .ensures .0 .ready .hazard))
+reported-requires c κs =
+    let w = c .before .before .before .before .before .before .pre .0 in
+    (w .ready, runs-comparable (omega (arith, w .most)) (c .before .before .put-blocks .ensures .0 .ready))
 
 sub-put-summary : tie.Need-sub-put-summary
 sub-put-summary c = search needs

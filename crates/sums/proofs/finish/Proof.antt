@@ -1,7 +1,8 @@
 -- `sums::finish` meets its contract. Assumes nothing.
 use mathlib.Core.Path.{sym, _∙_}
+use native.Mathlib.Omega.{arith}
 use Rattle.sums.specs.State.{steps, answerFrom}
-use Rattle.sums.proofs.Steps.{ready-size}
+use Rattle.sums.proofs.Comparisons.{runs-comparable}
 use borrow.Author.Needs.{needs}
 use Rattle.sums.proofs.finish.Statement.{statement}
 use Rattle.sums.proofs.finish.Tie as tie
@@ -10,7 +11,7 @@ accepted-requires : tie.Need-accepted-requires
 accepted-requires c κs = search needs
 
 reported-requires : tie.Need-reported-requires
-reported-requires c κs = (ready-size (c .before .before .pre .place) (c .before .before .pre .runs .risk), ready-size (c .before .before .pre .place) (c .before .before .pre .runs .hazard))
+reported-requires c κs = let g = c .before .before .pre in (g .ready, runs-comparable (omega (arith, g .place)) (g .runs))
 
 returns : tie.Need-returns
 unfolding answerFrom steps

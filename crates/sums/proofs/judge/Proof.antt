@@ -1,27 +1,47 @@
 -- `sums::judge` meets its contract. Assumes nothing.
 use mathlib.Core.Path.{sym, _∙_}
 use Rattle.sum_rules.specs.Verdict.{verdictOf}
+use Rattle.sums.proofs.Comparisons.{comparable, compared}
 use borrow.Author.Needs.{needs}
 use Rattle.sums.proofs.judge.Statement.{statement}
 use Rattle.sums.proofs.judge.Tie as tie
 
 at-most-requires : tie.Need-at-most-requires
-at-most-requires c κs = search needs
+at-most-requires c κs = let p = c .before .pre in (comparable (p .1 .0), comparable (p .1 .1))
 
 returns : tie.Need-returns
 unfolding verdictOf
-returns c = rw (c .before .before .if1 .taken, sym (c .before .at-most .ensures) ∙ c .if2 .taken)
+returns c =
+    let some = c .before .before in
+    let p = some .before .pre in
+    rw (some .if1 .taken, compared (p .1 .0) (p .1 .1) ∙ sym (c .before .at-most .ensures) ∙ c .if2 .taken)
 
 at-most-requires-2 : tie.Need-at-most-requires-2
-at-most-requires-2 c κs = search needs
+at-most-requires-2 c κs = let p = c .before .before .before .pre in (comparable (p .0), comparable (p .1 .1))
 
 returns-2 : tie.Need-returns-2
 unfolding verdictOf
-returns-2 c = rw (c .before .before .before .before .if1 .taken, sym (c .before .before .before .at-most .ensures) ∙ c .before .before .if2 .left, sym (c .before .at-most2 .ensures) ∙ c .if3 .taken)
+returns-2 c =
+    let upper = c .before .before in
+    let some = upper .before .before in
+    let p = some .before .pre in
+    rw (
+      some .if1 .taken,
+      compared (p .1 .0) (p .1 .1) ∙ sym (upper .before .at-most .ensures) ∙ upper .if2 .left,
+      compared (p .0) (p .1 .1) ∙ sym (c .before .at-most2 .ensures) ∙ c .if3 .taken,
+    )
 
 returns-3 : tie.Need-returns-3
 unfolding verdictOf
-returns-3 c = rw (c .before .before .before .before .if1 .taken, sym (c .before .before .before .at-most .ensures) ∙ c .before .before .if2 .left, sym (c .before .at-most2 .ensures) ∙ c .if3 .left)
+returns-3 c =
+    let upper = c .before .before in
+    let some = upper .before .before in
+    let p = some .before .pre in
+    rw (
+      some .if1 .taken,
+      compared (p .1 .0) (p .1 .1) ∙ sym (upper .before .at-most .ensures) ∙ upper .if2 .left,
+      compared (p .0) (p .1 .1) ∙ sym (c .before .at-most2 .ensures) ∙ c .if3 .left,
+    )
 
 returns-4 : tie.Need-returns-4
 unfolding verdictOf

@@ -1,26 +1,31 @@
+-- `writers::contaminant_refusal` meets its contract: room, then field. Assumes nothing.
+use mathlib.Core.Path.{sym, _∙_}
+use borrow.Author.Tests.{lt-ltb, le-ltb, not-true, not-false}
+use Rattle.block_rules.specs.Answers.{contaminantRefusal}
 use borrow.Author.Needs.{needs}
 use Rattle.writers.proofs.contaminant_refusal.Statement.{statement}
 use Rattle.writers.proofs.contaminant_refusal.Tie as tie
-use Rattle.writers.proofs.contaminant_refusal.Reads as reads
-use Rattle.writers.proofs.contaminant_refusal.Lts as lts
-use Rattle.writers.proofs.contaminant_fit.Reads as contaminant-fit-reads
 
--- src/lib.rt:140:9
 returns : tie.Need-returns
-returns c = ?
+unfolding contaminantRefusal
+returns c = rw (lt-ltb (c .before .args .room) 512 (c .if1 .taken))
 
--- src/lib.rt:142:9
 contaminant-fit-requires : tie.Need-contaminant-fit-requires
 contaminant-fit-requires c κs = search needs
 
--- src/lib.rt:143:9
 returns-2 : tie.Need-returns-2
-returns-2 c = ?
+unfolding contaminantRefusal
+returns-2 c =
+    let tested = c .before in
+    let roomy = tested .before in
+    rw (le-ltb (roomy .before .args .room) 512 (roomy .if1 .left), sym (tested .contaminant-fit .ensures) ∙ not-true _ (c .if2 .taken))
 
--- src/lib.rt:136:1
 returns-3 : tie.Need-returns-3
-returns-3 c = ?
+unfolding contaminantRefusal
+returns-3 c =
+    let tested = c .before in
+    let roomy = tested .before in
+    rw (le-ltb (roomy .before .args .room) 512 (roomy .if1 .left), sym (tested .contaminant-fit .ensures) ∙ not-false _ (c .if2 .left))
 
 pub contaminant-refusal-spec : {M : Type 1} → statement M
-contaminant-refusal-spec =
-    tie.close (tie.spec returns contaminant-fit-requires returns-2 returns-3)
+contaminant-refusal-spec = tie.close (tie.spec returns contaminant-fit-requires returns-2 returns-3)

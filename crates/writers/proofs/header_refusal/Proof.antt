@@ -1,34 +1,51 @@
+-- `writers::header_refusal` meets its contract: room, field, factor, in this order. Assumes nothing.
+use mathlib.Core.Path.{sym, _∙_}
+use borrow.Author.Tests.{lt-ltb, le-ltb, not-true, not-false}
+use Rattle.block_rules.specs.Answers.{headerRefusal}
 use borrow.Author.Needs.{needs}
 use Rattle.writers.proofs.header_refusal.Statement.{statement}
 use Rattle.writers.proofs.header_refusal.Tie as tie
-use Rattle.writers.proofs.header_refusal.Reads as reads
-use Rattle.writers.proofs.header_refusal.Lts as lts
-use Rattle.inputs.proofs.lacks_factor.Reads as lacks-factor-reads
-use Rattle.writers.proofs.header_fit.Reads as header-fit-reads
 
--- src/lib.rt:123:9
 returns : tie.Need-returns
-returns c = ?
+unfolding headerRefusal
+returns c = rw (lt-ltb (c .before .args .room) 512 (c .if1 .taken))
 
--- src/lib.rt:125:9
 header-fit-requires : tie.Need-header-fit-requires
 header-fit-requires c κs = search needs
 
--- src/lib.rt:126:9
 returns-2 : tie.Need-returns-2
-returns-2 c = ?
+unfolding headerRefusal
+returns-2 c =
+    let tested = c .before in
+    let roomy = tested .before in
+    rw (le-ltb (roomy .before .args .room) 512 (roomy .if1 .left), sym (tested .header-fit .ensures) ∙ not-true _ (c .if2 .taken))
 
--- src/lib.rt:129:8
 lacks-factor-requires : tie.Need-lacks-factor-requires
 lacks-factor-requires c κs = search needs
 
--- src/lib.rt:130:9
 returns-3 : tie.Need-returns-3
-returns-3 c = ?
+unfolding headerRefusal
+returns-3 c =
+    let fitting = c .before .before .before in
+    let tested = fitting .before in
+    let roomy = tested .before in
+    rw (
+      le-ltb (roomy .before .args .room) 512 (roomy .if1 .left),
+      sym (tested .header-fit .ensures) ∙ not-false _ (fitting .if2 .left),
+      sym (c .before .lacks-factor .ensures) ∙ c .if3 .taken,
+    )
 
--- src/lib.rt:119:1
 returns-4 : tie.Need-returns-4
-returns-4 c = ?
+unfolding headerRefusal
+returns-4 c =
+    let fitting = c .before .before .before in
+    let tested = fitting .before in
+    let roomy = tested .before in
+    rw (
+      le-ltb (roomy .before .args .room) 512 (roomy .if1 .left),
+      sym (tested .header-fit .ensures) ∙ not-false _ (fitting .if2 .left),
+      sym (c .before .lacks-factor .ensures) ∙ c .if3 .left,
+    )
 
 pub header-refusal-spec : {M : Type 1} → statement M
 header-refusal-spec =

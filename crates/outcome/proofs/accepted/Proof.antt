@@ -1,7 +1,7 @@
--- `sums::shares::accepted` meets its contract. Assumes nothing.
+-- `outcome::accepted` meets its contract. Assumes nothing.
 use borrow.Author.Needs.{needs}
-use Rattle.sums.proofs.shares.accepted.Statement.{statement}
-use Rattle.sums.proofs.shares.accepted.Tie as tie
+use Rattle.outcome.proofs.accepted.Statement.{statement}
+use Rattle.outcome.proofs.accepted.Tie as tie
 
 number-requires : tie.Need-number-requires
 number-requires c κs = search needs
