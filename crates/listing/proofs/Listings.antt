@@ -2,22 +2,18 @@
 use mathlib.Core.Path.{_≡_, sym, ap, subst, _∙_}
 use mathlib.Core.Bool.{Bool, true, false, cond}
 use mathlib.Core.List.{List, _++_}
-use Prim.Native.Nat.{ℕ, _/_, _≤_, _<_}
+use Prim.Native.Nat.{ℕ, _-_, _/_, _≤_, _<_}
 use native.Mathlib.Omega.{arith}
 use lib.Dec.{leb}
 use lib.ListN.{length, getD, take, drop, length-append}
 use lib.Seq.{take-append-seam}
 use borrow.Author.Tests.{eq-eqb, ne-eqb, le-leb, lt-leb}
-use Rattle.outcome.specs.declared.Refusal.{Refusal}
 use Rattle.outcome.specs.Outcome.{numberOf}
 use Rattle.words.specs.Bytes.{over}
-use Rattle.block_rules.specs.declared.Header.{Header}
-use Rattle.block_rules.specs.declared.HeaderRead.the-variants as H
-use Rattle.block_rules.specs.Reading.{headerRead}
 use Rattle.sum_rules.specs.declared.SumsAnswer.{SumsAnswer}
-use Rattle.site_rules.specs.Site.{blockAt, siteAnswer}
+use Rattle.site_rules.specs.Site.{siteAnswer}
 use Rattle.site_rules.specs.Results.{headerOf, siteLeft}
-use Rattle.site_rules.specs.Passed.{Opened}
+use Rattle.site_rules.proofs.Opened.{site-long}
 use Rattle.listing_rules.specs.Lines.{sumLine, refusalLine}
 use Rattle.listing_rules.specs.Listing.{acceptedText, textOf, listingOf, textRoom, textLength, textLeft}
 use Rattle.listing.specs.Asked.{blockText, Written, Answered}
@@ -30,18 +26,15 @@ accepted-by site out e z = ap (λ (x : SumsAnswer). numberOf (x .refusal)) (sym 
 pub answered : (site out : List ℕ) (a : SumsAnswer) (results : List ℕ) → ((i : ℕ) → getD site i 0 < 256) → a ≡ siteAnswer site (length out) → results ≡ siteLeft site out → Answered site results a
 answered site out a results byte e f = record { written = λ z. subst (Written site) (sym f) (written site out (accepted-by site (length out) e z) byte) }
 
--- the header was found, so it is not refused when it is read again
-pub not-refused : {site : List ℕ} {h : Header} {m : Refusal} → Opened site h → headerRead (blockAt site 0) (length site / 512) ≡ H.Refused m → ⊥
-not-refused {site} {h} {m} o e =
-    let q : H.Refused m ≡ H.Found h = sym e ∙ o .header in
-    let z : _≡_ {A = ℕ} 0 1 = cc in
-    omega arith
-
 -- ---- the text of an answer
-pub accepted-parts : {site results : List ℕ} {h : Header} (a : SumsAnswer) → Written site results → headerOf site ≡ h → blockText results (h .count) a ≡ acceptedText site a
+-- the length of an accepted site gives its count
+pub count-is : {site results : List ℕ} → Written site results → length site / 512 - 1 ≡ headerOf site .count
+count-is w = omega (arith, site-long (w .opened))
+
+pub accepted-parts : {site results : List ℕ} (a : SumsAnswer) → Written site results → blockText results (length site / 512 - 1) a ≡ acceptedText site a
 unfolding acceptedText
-accepted-parts {site} {results} a w e =
-    ap (λ (k : Header). blockText results (k .count) a) (sym e) ∙ ap (λ (l : List ℕ). l ++ sumLine 0 (a .risk) ++ sumLine 1 (a .hazard)) (w .lines)
+accepted-parts {site} {results} a w =
+    ap (λ (k : ℕ). blockText results k a) (count-is w) ∙ ap (λ (l : List ℕ). l ++ sumLine 0 (a .risk) ++ sumLine 1 (a .hazard)) (w .lines)
 
 pub text-refused : (site : List ℕ) (a : SumsAnswer) (n : ℕ) → n ≡ numberOf (a .refusal) → (n ≡ 0 → ⊥) → refusalLine n (a .block) ≡ textOf site a
 unfolding textOf

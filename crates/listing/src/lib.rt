@@ -1,5 +1,4 @@
 // The listing of a site: its guidelines, sums and verdicts as text.
-use block_rules::HeaderRead;
 use guideline_rules::SideGuidelines;
 use sum_rules::SumsAnswer;
 ghost use mathlib.Core.Path.{_≡_};
@@ -71,7 +70,7 @@ fn put_accepted(results: &[u8], count: u32, a: SumsAnswer, out: &mut [u8]) -> us
     lines::put_sums(out, second, 1, hazard)
 }
 
-// The listing of an answer: a refusal alone, or an accepted site, whose header is read again for its count.
+// The listing of an answer: a refusal alone, or an accepted site, whose length gives its count.
 fn put_listing(site: &[u8], results: &[u8], a: SumsAnswer, out: &mut [u8]) -> usize
     requires { ⌜ Answered (now site) (now results) a × (24576 ≤ length (now out)) ⌝ }
     ensures { λ end. ⌜ (end ≡ length (textOf (now (site .entry)) a)) × (now (out .exit) ≡ over (textOf (now (site .entry)) a) (now (out .entry))) ⌝ }
@@ -81,12 +80,8 @@ fn put_listing(site: &[u8], results: &[u8], a: SumsAnswer, out: &mut [u8]) -> us
     if n != 0 {
         return lines::put_refusal(out, 0, n, a.block);
     }
-    let blocks = (site.len() / 512) as u32;
-    match blocks::read_header(site, blocks) {
-        // It was found before, so it is found again.
-        HeaderRead::Refused(_) => 0,
-        HeaderRead::Found(h) => put_accepted(results, h.count, a, out),
-    }
+    let count = (site.len() / 512) as u32 - 1;
+    put_accepted(results, count, a, out)
 }
 
 // Evaluates the site into `results` as the site call does, and puts its listing, read from there, at the start of `text`.
