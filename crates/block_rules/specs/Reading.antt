@@ -93,9 +93,12 @@ abbrev pub headerNumber : HeaderRead → ℕ
 headerNumber (H.Found h) = 0
 headerNumber (H.Refused n) = numberOf n
 
+abbrev pub noHeader : Header
+noHeader = record { medium = 0; count = 0; scenario = blank }
+
 abbrev pub headerValue : HeaderRead → Header
 headerValue (H.Found h) = h
-headerValue (H.Refused n) = record { medium = 0; count = 0; scenario = blank }
+headerValue (H.Refused n) = noHeader
 
 abbrev pub contaminantNumber : ContaminantRead → ℕ
 contaminantNumber (C.Found r) = 0

@@ -1,6 +1,6 @@
 -- Decimals that were written are read back with the same m and the same e. Assumes nothing.
 -- `drop at b ≡ w ++ r` says that the bytes w stand in b at `at`, and r after them.
-use mathlib.Core.Path.{_≡_, refl, ap, ap₂, _∙_}
+use mathlib.Core.Path.{_≡_, refl, ap, ap₂, _∙_, sym}
 use mathlib.Core.List.{List, [], _∷_, _++_, append-assoc, append-nil}
 use mathlib.Core.Bool.{Bool, true, _&&_}
 use Prim.Native.Nat.{ℕ, suc, _+_, _*_, _%_, _/_}
@@ -26,6 +26,12 @@ pub fieldBytes-length : (ds : List Decimal) → length (fieldBytes ds) ≡ 8 * l
 unfolding fieldBytes
 fieldBytes-length [] = refl
 fieldBytes-length (d ∷ ds) = length-append (field d) (fieldBytes ds) ∙ omega (arith, field-length d, fieldBytes-length ds)
+
+-- the fields of y behind those of x
+pub fieldBytes-append : (x y : List Decimal) → fieldBytes (x ++ y) ≡ fieldBytes x ++ fieldBytes y
+unfolding fieldBytes
+fieldBytes-append [] y = refl
+fieldBytes-append (d ∷ x) y = ap (λ (t : List ℕ). field d ++ t) (fieldBytes-append x y) ∙ sym (append-assoc (field d) (fieldBytes x) (fieldBytes y))
 
 -- four fields, one behind the other
 pub four-fields : (a b c d : Decimal) → field a ++ field b ++ field c ++ field d ≡ fieldBytes (a ∷ (b ∷ (c ∷ (d ∷ []))))

@@ -1,18 +1,32 @@
 // The functions of the C library. Each takes numbers and lent bytes, and calls the proved function behind it.
 use block_rules::Header;
+use guideline_rules::GuidelineAnswer;
+use inputs::Contaminant;
 use inputs::Scenario;
 use outcome::Refusal;
+use sum_rules::SumsAnswer;
 ghost use mathlib.Core.Path.{_≡_};
+ghost use Prim.Native.Nat.{_≤_};
 ghost use lib.ListN.{length};
 ghost use Rattle.outcome.specs.Outcome.{numberOf};
-ghost use Rattle.sum_rules.specs.declared.SumsAnswer.{SumsAnswer};
+ghost use Rattle.fields.specs.Fields.{fieldBytes};
+ghost use Rattle.words.specs.Bytes.{over};
+ghost use Rattle.block_rules.specs.Layouts.{guidelineDecimals};
+ghost use Rattle.block_rules.specs.Answers.{headerRefusal, headerLeft, contaminantRefusal, contaminantLeft};
 ghost use Rattle.site_rules.specs.Site.{siteAnswer};
 ghost use Rattle.site_rules.specs.Results.{siteLeft};
 ghost use Rattle.listing_rules.specs.Listing.{textLength, textLeft};
-ghost use Rattle.gv_rules.specs.Exports.{packed, headerSent, headerPut, contaminantSent, contaminantPut, builtInSent, builtInPut};
+ghost use Rattle.gv_rules.specs.Exports.{wordOf, packed, headerFrom, contaminantFrom, guidelineSent, guidelineWord, guidelinePut, builtInSent, builtInPut};
 
-// The four numbers of an answer in one.
-pub fn pack(a: sum_rules::SumsAnswer) -> u64
+// The word of four numbers: a byte each where they are below 256.
+fn word_of(number: u32, block: u32, risk: u32, hazard: u32) -> u64
+    ensures { λ n. ⌜ n ≡ wordOf number block risk hazard ⌝ }
+{
+    number as u64 + 256 * (block as u64) + 65536 * (risk as u64) + 16777216 * (hazard as u64)
+}
+
+// The word of an answer of the site call.
+pub fn pack(a: SumsAnswer) -> u64
     ensures { λ n. ⌜ n ≡ packed a ⌝ }
 {
     let refusal = a.refusal;
@@ -20,10 +34,43 @@ pub fn pack(a: sum_rules::SumsAnswer) -> u64
     let h = a.hazard;
     let risk = r.verdict;
     let hazard = h.verdict;
-    outcome::number(refusal) as u64
-        + 256 * (a.block as u64)
-        + 65536 * (sums::verdict_number(risk) as u64)
-        + 16777216 * (sums::verdict_number(hazard) as u64)
+    word_of(
+        outcome::number(refusal),
+        a.block,
+        sums::verdict_number(risk),
+        sums::verdict_number(hazard),
+    )
+}
+
+// The header in a struct gv_header. A struct of another form stands for one that keeps no rule.
+fn header_from(header: &[u8]) -> Header
+    ensures { λ h. ⌜ h ≡ headerFrom (now (header .entry)) ⌝ }
+{
+    let none = Header {
+        medium: 0,
+        count: 0,
+        scenario: Scenario::BLANK,
+    };
+    if header.len() != 104 {
+        return none;
+    }
+    if !fields::unused_zero(header, 8, 12) {
+        return none;
+    }
+    blocks::get_header(header, 0)
+}
+
+// The contaminant in a struct gv_contaminant. A struct of another form stands for one that keeps no rule.
+fn contaminant_from(contaminant: &[u8]) -> Contaminant
+    ensures { λ r. ⌜ r ≡ contaminantFrom (now (contaminant .entry)) ⌝ }
+{
+    if contaminant.len() != 72 {
+        return Contaminant::NONE;
+    }
+    if !fields::unused_zero(contaminant, 8, 8) {
+        return Contaminant::NONE;
+    }
+    blocks::get_contaminant(contaminant, 0)
 }
 
 // Evaluates a site: see include/gv.h.
@@ -43,51 +90,68 @@ pub extern "C" fn gv_list(site: &[u8], out: &mut [u8], text: &mut [u8]) -> u64
     listed.length as u64
 }
 
+// Writes the eight guidelines: risk, then hazard.
+fn put_guidelines(out: &mut [u8], a: GuidelineAnswer)
+    requires { ⌜ 64 ≤ length (now out) ⌝ }
+    ensures { λ _. ⌜ now (out .exit) ≡ over (fieldBytes (guidelineDecimals (a .risk) (a .hazard))) (now (out .entry)) ⌝ }
+{
+    let r = a.risk;
+    let h = a.hazard;
+    fields::put_four(out, 0, r.first, r.second, r.third, r.total);
+    fields::put_four(out, 32, h.first, h.second, h.third, h.total);
+}
+
+// The single guideline of a struct gv_header, whose count is not looked at, and a struct gv_contaminant: see include/gv.h.
+#[no_mangle]
+pub extern "C" fn gv_guideline(header: &[u8], contaminant: &[u8], out: &mut [u8]) -> u64
+    ensures { λ n. ⌜ (n ≡ guidelineWord (guidelineSent (now (header .entry)) (now (contaminant .entry)) (length (now (out .entry))))) × (now (out .exit) ≡ guidelinePut (guidelineSent (now (header .entry)) (now (contaminant .entry)) (length (now (out .entry)))) (now (out .entry))) ⌝ }
+{
+    let h = header_from(header);
+    let s = h.scenario;
+    let r = contaminant_from(contaminant);
+    let a = guideline::guideline(s, h.medium, r);
+    let refusal = a.refusal;
+    if !outcome::accepted(refusal) {
+        return word_of(outcome::number(refusal), a.block, 0, 0);
+    }
+    if out.len() < 64 {
+        return word_of(outcome::number(Refusal::Room), 0, 0, 0);
+    }
+    put_guidelines(out, a);
+    word_of(outcome::number(refusal), a.block, 0, 0)
+}
+
 // Writes a header block from a struct gv_header.
 #[no_mangle]
 pub extern "C" fn gv_write_header(out: &mut [u8], header: &[u8]) -> u32
-    ensures { λ n. ⌜ (n ≡ numberOf (headerSent (now (out .entry)) (now (header .entry)))) × (now (out .exit) ≡ headerPut (now (out .entry)) (now (header .entry))) ⌝ }
+    ensures { λ n. ⌜ (n ≡ numberOf (headerRefusal (length (now (out .entry))) (headerFrom (now (header .entry))))) × (now (out .exit) ≡ headerLeft (now (out .entry)) (headerFrom (now (header .entry)))) ⌝ }
 {
-    if out.len() < 512 {
-        return outcome::number(Refusal::Room);
-    }
-    if header.len() != 104 {
-        return outcome::number(Refusal::Field);
-    }
-    if !fields::unused_zero(header, 8, 12) {
-        return outcome::number(Refusal::Field);
-    }
-    let h = blocks::get_header(header, 0);
-    outcome::number(writers::write_header(out, h))
+    let h = header_from(header);
+    let a = writers::write_header(out, h);
+    let refusal = a.refusal;
+    outcome::number(refusal)
 }
 
 // Writes a contaminant block from a struct gv_contaminant.
 #[no_mangle]
 pub extern "C" fn gv_write_contaminant(out: &mut [u8], place: u32, contaminant: &[u8]) -> u32
-    ensures { λ n. ⌜ (n ≡ numberOf (contaminantSent (now (out .entry)) place (now (contaminant .entry)))) × (now (out .exit) ≡ contaminantPut (now (out .entry)) place (now (contaminant .entry))) ⌝ }
+    ensures { λ n. ⌜ (n ≡ numberOf (contaminantRefusal (length (now (out .entry))) place (contaminantFrom (now (contaminant .entry))))) × (now (out .exit) ≡ contaminantLeft (now (out .entry)) place (contaminantFrom (now (contaminant .entry)))) ⌝ }
 {
-    if out.len() < 512 {
-        return outcome::number(Refusal::Room);
-    }
-    if contaminant.len() != 72 {
-        return outcome::number(Refusal::Field);
-    }
-    if !fields::unused_zero(contaminant, 8, 8) {
-        return outcome::number(Refusal::Field);
-    }
-    let r = blocks::get_contaminant(contaminant, 0);
-    outcome::number(writers::write_contaminant(out, place, r))
+    let r = contaminant_from(contaminant);
+    let a = writers::write_contaminant(out, place, r);
+    let refusal = a.refusal;
+    outcome::number(refusal)
 }
 
 // Writes the header block of a built-in scenario.
 #[no_mangle]
 pub extern "C" fn gv_write_built_in(out: &mut [u8], number: u32, medium: u32, count: u32) -> u32
-    ensures { λ n. ⌜ (n ≡ numberOf (builtInSent (now (out .entry)) number medium count)) × (now (out .exit) ≡ builtInPut (now (out .entry)) number medium count) ⌝ }
+    ensures { λ n. ⌜ (n ≡ numberOf (builtInSent (length (now (out .entry))) number medium count)) × (now (out .exit) ≡ builtInPut (now (out .entry)) number medium count) ⌝ }
 {
     let b = Scenario::built_in(number);
     let refusal = b.refusal;
     let scenario = b.scenario;
-    if !sums::shares::accepted(refusal) {
+    if !outcome::accepted(refusal) {
         return outcome::number(refusal);
     }
     let h = Header {
@@ -95,5 +159,7 @@ pub extern "C" fn gv_write_built_in(out: &mut [u8], number: u32, medium: u32, co
         count,
         scenario,
     };
-    outcome::number(writers::write_header(out, h))
+    let a = writers::write_header(out, h);
+    let sent = a.refusal;
+    outcome::number(sent)
 }

@@ -153,6 +153,22 @@ impl Scenario {
     }
 }
 
+impl Contaminant {
+    // Class 0 and id 0, which keep no rule, and every decimal zero.
+    pub const NONE: Contaminant = Contaminant {
+        class: 0,
+        id: 0,
+        sfo: Decimal { m: 0, e: 0 },
+        sfi: Decimal { m: 0, e: 0 },
+        sfx: Decimal { m: 0, e: 0 },
+        rfdo: Decimal { m: 0, e: 0 },
+        rfdi: Decimal { m: 0, e: 0 },
+        vf: Decimal { m: 0, e: 0 },
+        pc: Decimal { m: 0, e: 0 },
+        c: Decimal { m: 0, e: 0 },
+    };
+}
+
 // Both tests. No branch depends on them.
 pub fn both(a: bool, b: bool) -> bool
     ensures { λ r. ⌜ r ≡ a && b ⌝ }

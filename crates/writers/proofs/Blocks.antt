@@ -8,8 +8,8 @@ use Rattle.words.specs.Bytes.{le4, placed, over}
 use Rattle.words.proofs.Words.{le4-length, wordSum-front}
 use Rattle.words.proofs.Written.{Wrote, wrote-next}
 use Rattle.decimal.specs.declared.Decimal.{Decimal}
-use Rattle.fields.specs.Fields.{field, fieldBytes}
-use Rattle.fields.proofs.ReadBack.{fieldBytes-length}
+use Rattle.fields.specs.Fields.{fieldBytes}
+use Rattle.fields.proofs.ReadBack.{fieldBytes-length, fieldBytes-append}
 use Rattle.block_rules.specs.Layouts.{lastWord, bodyOf, blockOf}
 
 -- ---- the last word
@@ -22,12 +22,6 @@ unfolding lastWord over
 lastWord-over p d h = ap (λ (n : ℕ). (4294967296 - n % 4294967296) % 4294967296) (wordSum-front p (drop (length p) d) 127 (omega arith))
 
 -- ---- the steps
--- the fields of y behind those of x
-fieldBytes-append : (x y : List Decimal) → fieldBytes (x ++ y) ≡ fieldBytes x ++ fieldBytes y
-unfolding fieldBytes
-fieldBytes-append [] y = refl
-fieldBytes-append (d ∷ x) y = ap (λ (t : List ℕ). field d ++ t) (fieldBytes-append x y) ∙ sym (append-assoc (field d) (fieldBytes x) (fieldBytes y))
-
 pub wrote-fields : {l d : List ℕ} {at : ℕ} (p : List ℕ) (x y : List Decimal) (k : ℕ) (l′ : List ℕ) → Wrote l (p ++ fieldBytes x) d at → l′ ≡ placed l at (fieldBytes y) → 8 * length y ≡ k
     → Wrote l′ (p ++ fieldBytes (x ++ y)) d (at + k)
 wrote-fields {l} {d} {at} p x y k l′ w e n =

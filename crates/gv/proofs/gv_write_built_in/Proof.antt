@@ -1,12 +1,15 @@
 -- `gv::gv_write_built_in` meets its contract. Assumes nothing.
 use mathlib.Core.Path.{_≡_, refl, sym, ap, _∙_}
-use borrow.Author.Tests.{not-true, not-false}
 use lib.Dec.{eqb}
+use lib.ListN.{length}
+use borrow.Author.Tests.{not-true, not-false}
+use Rattle.outcome.specs.declared.Answer.{Answer}
 use Rattle.outcome.specs.Outcome.{numberOf}
 use Rattle.inputs.specs.declared.BuiltIn.{BuiltIn}
+use Rattle.inputs.specs.declared.Scenario.{Scenario}
 use Rattle.inputs.specs.BuiltIn.{builtInOf}
-use Rattle.block_rules.specs.Layouts.{headerBlock}
-use Rattle.block_rules.specs.Answers.{headerAnswer, headerLeft, leftBy}
+use Rattle.block_rules.specs.declared.Header.{Header}
+use Rattle.block_rules.specs.Answers.{headerRefusal, headerLeft, leftBy}
 use Rattle.gv_rules.specs.Exports.{builtInSent, builtInPut}
 use borrow.Author.Needs.{needs}
 use Rattle.gv.proofs.gv_write_built_in.Statement.{statement}
@@ -24,8 +27,13 @@ number-requires c κs = search needs
 returns : tie.Need-returns
 unfolding builtInSent builtInPut leftBy
 returns c =
-    let f : eqb (numberOf (builtInOf (c .before .before .before .before .before .before .args .number) .refusal)) 0 ≡ _ = ap (λ (b : BuiltIn). eqb (numberOf (b .refusal)) 0) (sym (c .before .before .before .before .built-in .ensures)) ∙ sym (c .before .before .accepted .ensures) ∙ not-true _ (c .before .if1 .taken) in
-    rw (f, f) (c .number .ensures ∙ ap (λ (b : BuiltIn). numberOf (b .refusal)) (c .before .before .before .before .built-in .ensures), refl)
+    let accepted = c .before .before in
+    let found = accepted .before .before in
+    let e = found .built-in .ensures in
+    let n = found .before .before .args .number in
+    let f : eqb (numberOf (builtInOf n .refusal)) 0 ≡ _ =
+        ap (λ (b : BuiltIn). eqb (numberOf (b .refusal)) 0) (sym e) ∙ sym (accepted .accepted .ensures) ∙ not-true _ (c .before .if1 .taken) in
+    rw (f, f) (c .number .ensures ∙ ap (λ (b : BuiltIn). numberOf (b .refusal)) e, refl)
 
 write-header-requires : tie.Need-write-header-requires
 write-header-requires c κs = search needs
@@ -39,11 +47,30 @@ same-length c = search needs
 returns-2 : tie.Need-returns-2
 unfolding builtInSent builtInPut headerLeft
 returns-2 c =
-    let f : eqb (numberOf (builtInOf (c .before .before .before .before .before .before .before .before .before .before .args .number) .refusal)) 0 ≡ _ = ap (λ (b : BuiltIn). eqb (numberOf (b .refusal)) 0) (sym (c .before .before .before .before .before .before .before .before .built-in .ensures)) ∙ sym (c .before .before .before .before .before .before .accepted .ensures) ∙ not-false _ (c .before .before .before .before .before .if1 .left) in
+    let written = c .before .before .before in
+    let kept = written .before .before in
+    let accepted = kept .before in
+    let found = accepted .before .before in
+    let a = found .before .before .args in
+    let e = found .built-in .ensures in
+    let w = written .write-header .ensures in
+    let header : Scenario → Header = λ s. record { medium = a .medium; count = a .count; scenario = s } in
+    let f : eqb (numberOf (builtInOf (a .number) .refusal)) 0 ≡ _ =
+        ap (λ (b : BuiltIn). eqb (numberOf (b .refusal)) 0) (sym e) ∙ sym (accepted .accepted .ensures) ∙ not-false _ (kept .if1 .left) in
     rw f (
-      c .number2 .ensures ∙ ap numberOf (c .before .before .before .write-header .ensures .0) ∙ ap (λ (b : BuiltIn). numberOf (headerAnswer (c .before .before .before .before .before .before .before .before .before .before .args .out .now) (record { medium = c .before .before .before .before .before .before .before .before .before .before .args .medium; count = c .before .before .before .before .before .before .before .before .before .before .args .count; scenario = b .scenario }))) (c .before .before .before .before .before .before .before .before .built-in .ensures),
-      c .before .before .before .write-header .ensures .1 ∙ ap (λ (b : BuiltIn). leftBy (headerAnswer (c .before .before .before .before .before .before .before .before .before .before .args .out .now) (record { medium = c .before .before .before .before .before .before .before .before .before .before .args .medium; count = c .before .before .before .before .before .before .before .before .before .before .args .count; scenario = b .scenario })) (headerBlock (record { medium = c .before .before .before .before .before .before .before .before .before .before .args .medium; count = c .before .before .before .before .before .before .before .before .before .before .args .count; scenario = b .scenario })) (c .before .before .before .before .before .before .before .before .before .before .args .out .now)) (c .before .before .before .before .before .before .before .before .built-in .ensures),
+      c .number2 .ensures ∙ ap (λ (x : Answer). numberOf (x .refusal)) (w .0) ∙ ap (λ (b : BuiltIn). numberOf (headerRefusal (length (a .out .now)) (header (b .scenario)))) e,
+      w .1 ∙ ap (λ (b : BuiltIn). headerLeft (a .out .now) (header (b .scenario))) e,
     )
 
 pub gv-write-built-in-spec : {M : Type 1} → statement M
-gv-write-built-in-spec = tie.close (tie.spec built-in-requires accepted-requires number-requires returns write-header-requires number-requires-2 same-length returns-2)
+gv-write-built-in-spec =
+    tie.close
+    (tie.spec
+    built-in-requires
+    accepted-requires
+    number-requires
+    returns
+    write-header-requires
+    number-requires-2
+    same-length
+    returns-2)

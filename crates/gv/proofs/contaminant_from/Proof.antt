@@ -1,0 +1,37 @@
+-- `gv::contaminant_from` meets its contract. Assumes nothing.
+use mathlib.Core.Path.{sym, _∙_}
+use native.Mathlib.Omega.{arith}
+use lib.ListN.{length}
+use borrow.Author.Tests.{eq-eqb, ne-eqb, not-true, not-false}
+use Rattle.gv_rules.specs.Exports.{contaminantForm, contaminantFrom}
+use Rattle.gv.proofs.contaminant_from.Statement.{statement}
+use Rattle.gv.proofs.contaminant_from.Tie as tie
+
+returns : tie.Need-returns
+unfolding contaminantFrom contaminantForm
+returns c = rw (ne-eqb (length (c .before .before .args .contaminant .now)) 72 (c .if1 .taken))
+
+unused-zero-requires : tie.Need-unused-zero-requires
+unused-zero-requires c κs = omega (arith, c .if1 .left)
+
+returns-2 : tie.Need-returns-2
+unfolding contaminantFrom contaminantForm
+returns-2 c =
+    let long = c .before .before in
+    let l = long .before .before .args .contaminant .now in
+    rw (eq-eqb (length l) 72 (long .if1 .left), sym (c .before .unused-zero .ensures) ∙ not-true _ (c .if2 .taken))
+
+get-contaminant-requires : tie.Need-get-contaminant-requires
+get-contaminant-requires c κs = (omega arith, omega (arith, c .before .before .if1 .left))
+
+returns-3 : tie.Need-returns-3
+unfolding contaminantFrom contaminantForm
+returns-3 c =
+    let clean = c .before in
+    let long = clean .before .before in
+    let l = long .before .before .args .contaminant .now in
+    rw (eq-eqb (length l) 72 (long .if1 .left), sym (clean .before .unused-zero .ensures) ∙ not-false _ (clean .if2 .left)) (c .get-contaminant .ensures)
+
+pub contaminant-from-spec : {M : Type 1} → statement M
+contaminant-from-spec =
+    tie.close (tie.spec returns unused-zero-requires returns-2 get-contaminant-requires returns-3)
