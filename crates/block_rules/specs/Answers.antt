@@ -12,7 +12,7 @@ use Rattle.words.specs.Bytes.{over}
 use Rattle.inputs.specs.declared.Contaminant.{Contaminant}
 use Rattle.inputs.specs.Rules.{scenarioFits, contaminantFits, lacksFactor}
 use Rattle.block_rules.specs.declared.Header.{Header}
-use Rattle.block_rules.specs.Rules.{inFile}
+use Rattle.block_rules.specs.Rules.{inFile, blockSize}
 use Rattle.block_rules.specs.Layouts.{headerBlock, contaminantBlock}
 
 -- the count is 1 to 120, the medium and the decimals keep their rule
@@ -25,10 +25,10 @@ contaminantFit place r = inFile place && contaminantFits r
 
 -- what they send back where so many bytes are lent
 unfoldable pub headerRefusal : ℕ → Header → Refusal
-headerRefusal room h = cond (ltb room 512) Room (cond (not (headerFit h)) Field (cond (lacksFactor (h .scenario)) Factor Accepted))
+headerRefusal room h = cond (ltb room blockSize) Room (cond (not (headerFit h)) Field (cond (lacksFactor (h .scenario)) Factor Accepted))
 
 unfoldable pub contaminantRefusal : ℕ → ℕ → Contaminant → Refusal
-contaminantRefusal room place r = cond (ltb room 512) Room (cond (not (contaminantFit place r)) Field Accepted)
+contaminantRefusal room place r = cond (ltb room blockSize) Room (cond (not (contaminantFit place r)) Field Accepted)
 
 -- a writer's block is always 0
 abbrev pub headerAnswer : ℕ → Header → Answer

@@ -17,7 +17,7 @@ use Rattle.block_rules.specs.declared.HeaderRead.{HeaderRead}
 use Rattle.block_rules.specs.declared.HeaderRead.the-variants as H
 use Rattle.block_rules.specs.declared.ContaminantRead.{ContaminantRead}
 use Rattle.block_rules.specs.declared.ContaminantRead.the-variants as C
-use Rattle.block_rules.specs.Rules.{countOk}
+use Rattle.block_rules.specs.Rules.{countOk, blockSize}
 
 -- EF ED BW AT IR IRA PEF ET RF SA TR THI from `at`
 unfoldable pub scenarioAt : List ℕ → ℕ → Scenario
@@ -70,7 +70,7 @@ soundAt b place = eqb (wordSum b 128 % 4294967296) 0 && eqb (wordAt b 4) place
 -- the header block b of a site of so many blocks: what it holds, or 2 to 6. What is no block of 512 bytes is refused by 1
 unfoldable pub headerRead : List ℕ → ℕ → HeaderRead
 headerRead b blocks =
-    cond (not (eqb (length b) 512)) (H.Refused Length)
+    cond (not (eqb (length b) blockSize)) (H.Refused Length)
     (cond (not (soundAt b 0)) (H.Refused Check)
     (cond (not (eqb (wordAt b 0) 1)) (H.Refused Kind)
     (cond (not (scenarioFits (scenarioAt b 16) (wordAt b 8) && headerUnused b 8)) (H.Refused Field)
@@ -81,7 +81,7 @@ headerRead b blocks =
 -- the contaminant block b at a place, after the previous id: what it holds, or 2, 3, 4, 7
 unfoldable pub contaminantRead : List ℕ → ℕ → ℕ → ContaminantRead
 contaminantRead b place previous =
-    cond (not (eqb (length b) 512)) (C.Refused Length)
+    cond (not (eqb (length b) blockSize)) (C.Refused Length)
     (cond (not (soundAt b place)) (C.Refused Check)
     (cond (not (eqb (wordAt b 0) 2)) (C.Refused Kind)
     (cond (not (contaminantFits (contaminantAt b 8) && contaminantUnused b 8)) (C.Refused Field)

@@ -3,10 +3,15 @@
 use Prim.Native.Nat.{ℕ, _+_}
 use mathlib.Core.Bool.{Bool, _&&_}
 use lib.Dec.{eqb, leb}
+use Rattle.inputs.specs.Rules.{mostContaminants}
+
+-- the bytes of a block
+abbrev pub blockSize : ℕ
+blockSize = 512
 
 -- a count or a place: 1 to 120
 unfoldable pub inFile : ℕ → Bool
-inFile n = leb 1 n && leb n 120
+inFile n = leb 1 n && leb n mostContaminants
 
 -- 5 Count: the count is blocks less one; a site has 1 to 120 contaminants
 unfoldable pub countOk : ℕ → ℕ → Bool

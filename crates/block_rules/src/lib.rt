@@ -3,6 +3,9 @@ use inputs::Contaminant;
 use inputs::Scenario;
 use outcome::Refusal;
 
+// The bytes of a block.
+pub const BLOCK_SIZE: usize = 512;
+
 // What a header block holds: the medium (1 soil, 2 water), how many contaminants follow, the scenario.
 pub struct Header {
     pub medium: u32,

@@ -1,8 +1,10 @@
 // Reading the blocks of a site: the header and the contaminants.
+use block_rules::BLOCK_SIZE;
 use block_rules::ContaminantRead;
 use block_rules::Header;
 use block_rules::HeaderRead;
 use inputs::Contaminant;
+use inputs::MOST_CONTAMINANTS;
 use inputs::Scenario;
 use outcome::Refusal;
 ghost use mathlib.Core.Path.{_≡_};
@@ -10,14 +12,14 @@ ghost use Prim.Native.Nat.{_+_, _≤_};
 ghost use lib.Dec.{eqb};
 ghost use lib.ListN.{length};
 ghost use Rattle.words.specs.Words.{partOf};
-ghost use Rattle.block_rules.specs.Rules.{inFile, countOk};
+ghost use Rattle.block_rules.specs.Rules.{inFile, countOk, blockSize};
 ghost use Rattle.block_rules.specs.Reading.{scenarioAt, headerAt, contaminantAt, headerUnused, contaminantUnused, soundAt, headerRead, contaminantRead};
 
 // Whether a count or a place is from 1 to 120.
 pub fn in_file(n: u32) -> bool
     ensures { λ b. ⌜ b ≡ inFile n ⌝ }
 {
-    inputs::both(1 <= n, n <= 120)
+    inputs::both(1 <= n, n <= MOST_CONTAMINANTS)
 }
 
 // Whether the count is from 1 to 120 and one less than the number of blocks.
@@ -32,18 +34,18 @@ fn count_ok(count: u32, blocks: u32) -> bool
 
 // Whether the slice has a whole block at `at`.
 fn has_block(site: &[u8], at: usize) -> bool
-    ensures { λ b. ⌜ b ≡ eqb (length (partOf (now (site .entry)) at 512)) 512 ⌝ }
+    ensures { λ b. ⌜ b ≡ eqb (length (partOf (now (site .entry)) at blockSize)) blockSize ⌝ }
 {
     let n = site.len();
-    if n < 512 {
+    if n < BLOCK_SIZE {
         return false;
     }
-    at <= n - 512
+    at <= n - BLOCK_SIZE
 }
 
 // Whether the words of the block add to zero, and its place is the one given.
 fn sound(block: &[u8], place: u32) -> bool
-    requires { ⌜ 512 ≤ length (now block) ⌝ }
+    requires { ⌜ blockSize ≤ length (now block) ⌝ }
     ensures { λ b. ⌜ b ≡ soundAt (now (block .entry)) place ⌝ }
 {
     let sum = words::sum(block, 128);
@@ -127,12 +129,12 @@ fn contaminant_unused(part: &[u8]) -> bool
 
 // The header of a site of so many blocks: its first 512 bytes.
 pub fn read_header(site: &[u8], blocks: u32) -> HeaderRead
-    ensures { λ r. ⌜ r ≡ headerRead (partOf (now (site .entry)) 0 512) blocks ⌝ }
+    ensures { λ r. ⌜ r ≡ headerRead (partOf (now (site .entry)) 0 blockSize) blocks ⌝ }
 {
     if !has_block(site, 0) {
         return HeaderRead::Refused(Refusal::Length);
     }
-    if !sound(&site[0..512], 0) {
+    if !sound(&site[0..BLOCK_SIZE], 0) {
         return HeaderRead::Refused(Refusal::Check);
     }
     if words::word(site, 0) != 1 {
@@ -155,12 +157,12 @@ pub fn read_header(site: &[u8], blocks: u32) -> HeaderRead
 
 // The contaminant in the block at `at`, which is to have this place and an id above the one before.
 pub fn read_contaminant(site: &[u8], at: usize, place: u32, previous: u32) -> ContaminantRead
-    ensures { λ r. ⌜ r ≡ contaminantRead (partOf (now (site .entry)) at 512) place previous ⌝ }
+    ensures { λ r. ⌜ r ≡ contaminantRead (partOf (now (site .entry)) at blockSize) place previous ⌝ }
 {
     if !has_block(site, at) {
         return ContaminantRead::Refused(Refusal::Length);
     }
-    let end = at + 512;
+    let end = at + BLOCK_SIZE;
     if !sound(&site[at..end], place) {
         return ContaminantRead::Refused(Refusal::Check);
     }

@@ -1,8 +1,9 @@
 -- Decimals as paper 01 has them: the pair (m, e) is worth m * 10^e. What an operand is, and the operations.
 use mathlib.Core.Bool.{Bool, true, false, cond, not, _&&_}
-use Prim.Native.Nat.{ℕ, _≤_, _<_}
+use Prim.Native.Nat.{ℕ, _≤_, _<_, _-_}
 use lib.IntN.{pos, subℕ}
 use lib.Dec.{eqb, leb}
+use Rattle.rounding.specs.Sizes.{nineDigits, tenDigits, bias}
 use Rattle.rounding.specs.declared.Direction.{Direction}
 use Rattle.rounding.specs.declared.Number.{Number}
 use Rattle.rounding.specs.Number.{worth}
@@ -22,11 +23,11 @@ abbrev pub biasedOf : Decimal → Number
 biasedOf d = record { m = d .m; x = raised (d .e) }
 
 abbrev pub decimalOf : Number → Decimal
-decimalOf r = cond (eqb (r .m) 0) zeroOf (record { m = r .m; e = subℕ (r .x) 3000 })
+decimalOf r = cond (eqb (r .m) 0) zeroOf (record { m = r .m; e = subℕ (r .x) bias })
 
 -- what a number must be so that its decimal fits the fields
 pub record Printable (r : Number) : Type 0 where
-  pub digits : r .m < 1000000000
+  pub digits : r .m < tenDigits
   pub exponent : r .x ≤ 10000
 
 -- what d is worth, in units of 10^-3000
@@ -38,7 +39,7 @@ valueOf d = worth (plainOf d)
 
 -- ---- an operand: a working decimal, (0, 0) or m from 100,000,000 to 999,999,999, with e from -999 to 999
 unfoldable pub isOperand : Number → Bool
-isOperand r = cond (eqb (r .m) 0) (eqb (r .x) 3000) (leb 100000000 (r .m) && (leb (r .m) 999999999 && not (eqb (r .x) 0)))
+isOperand r = cond (eqb (r .m) 0) (eqb (r .x) bias) (leb nineDigits (r .m) && (leb (r .m) (tenDigits - 1) && not (eqb (r .x) 0)))
 
 abbrev pub areOperands : Decimal → Decimal → Bool
 areOperands a b = isOperand (biasedOf a) && isOperand (biasedOf b)
@@ -59,7 +60,7 @@ addOf a b dir = cond (areOperands a b) (decimalOf (sumOf dir (biasedOf a) (biase
 
 -- ---- the working form of an input decimal; (0, 0) for what is none: m above 999,999,999 or e outside -999 to 999
 unfoldable pub workingOf : Decimal → Decimal
-workingOf d = cond (leb (d .m) 999999999 && not (eqb (raised (d .e)) 0)) (decimalOf (nineOf (biasedOf d))) zeroOf
+workingOf d = cond (leb (d .m) (tenDigits - 1) && not (eqb (raised (d .e)) 0)) (decimalOf (nineOf (biasedOf d))) zeroOf
 
 -- ---- whether a is worth at most b; false where one of them is no operand
 unfoldable pub atMostOf : Decimal → Decimal → Bool

@@ -3,10 +3,11 @@ use mathlib.Core.Bool.{Bool, cond}
 use Prim.Native.Nat.{ℕ, _+_, _-_}
 use lib.IntN.{ℤ, pos, negsuc}
 use lib.Dec.{leb, ltb}
+use Rattle.rounding.specs.Sizes.{bias}
 
 abbrev pub raise : ℤ → ℕ
-raise (pos n) = 3000 + n
-raise (negsuc n) = 2999 - n
+raise (pos n) = bias + n
+raise (negsuc n) = bias - 1 - n
 
 -- e from -999 to 999
 abbrev pub inRange : ℤ → Bool

@@ -1,9 +1,13 @@
 // Decimals (m, e) worth m * 10^e, multiplied, divided and added with the result rounded down or up.
+use rounding::BIAS;
 use rounding::Direction;
+use rounding::NINE_DIGITS;
 use rounding::Number;
+use rounding::TEN_DIGITS;
 ghost use mathlib.Core.Path.{_≡_};
 ghost use Prim.Native.Nat.{_≤_};
 ghost use lib.IntN.{subℕ};
+ghost use Rattle.rounding.specs.Sizes.{bias};
 ghost use Rattle.decimal.specs.Exponent.{raised};
 ghost use Rattle.decimal.specs.Decimal.{zeroOf, biasedOf, decimalOf, Printable, isOperand, operandsOf, mulOf, divOf, addOf, workingOf, atMostOf};
 
@@ -30,7 +34,7 @@ pub fn biased_exponent(e: i32) -> u64
 // x - 3000.
 fn signed_exponent(x: u64) -> i32
     requires { ⌜ x ≤ 10000 ⌝ }
-    ensures { λ e. ⌜ e ≡ subℕ x 3000 ⌝ }
+    ensures { λ e. ⌜ e ≡ subℕ x bias ⌝ }
 {
     x as i32 - 3000
 }
@@ -73,12 +77,12 @@ fn operand(r: Number) -> bool
     let m = r.m;
     let x = r.x;
     if m == 0 {
-        return x == 3000;
+        return x == BIAS;
     }
-    if m < 100_000_000 {
+    if m < NINE_DIGITS {
         return false;
     }
-    if 999_999_999 < m {
+    if TEN_DIGITS <= m {
         return false;
     }
     x != 0
@@ -144,7 +148,7 @@ impl Decimal {
         ensures { λ r. ⌜ r ≡ workingOf self ⌝ }
     {
         let r = biased(self);
-        if 999_999_999 < r.m {
+        if TEN_DIGITS <= r.m {
             return zero();
         }
         if r.x == 0 {

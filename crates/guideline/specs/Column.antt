@@ -1,7 +1,9 @@
 -- What the code keeps of a side's guidelines: numbers, and the equations that make them.
 use mathlib.Core.Path.{_≡_}
 use mathlib.Core.Bool.{Bool, _&&_}
+use Prim.Native.Nat.{_+_, _-_}
 use lib.Dec.{ltb}
+use Rattle.rounding.specs.Sizes.{bias}
 use Rattle.decimal.specs.Decimal.{decimalOf, Printable}
 use Rattle.terms.specs.Side.{TotalSize}
 use Rattle.guideline_rules.specs.declared.SideGuidelines.{SideGuidelines}
@@ -21,7 +23,7 @@ pub record ColumnFor (target : Number) (t : Side) (c : Column) : Type 0 where
 
 -- the exponent is from -999 to 999
 abbrev pub rangedOf : Number → Bool
-rangedOf r = ltb 2000 (r .x) && ltb (r .x) 4000
+rangedOf r = ltb (bias - 1000) (r .x) && ltb (r .x) (bias + 1000)
 
 abbrev pub columnRanged : Side → Column → Bool
 columnRanged t c =

@@ -9,6 +9,7 @@ use inputs::contaminant_fits;
 use inputs::lacks_factor;
 use inputs::scenario_fits;
 use outcome::Refusal;
+use rounding::BIAS;
 use rounding::Direction;
 use rounding::Number;
 use terms::pathways::Side;
@@ -23,6 +24,11 @@ ghost use Rattle.formulas.specs.Term.{inputsOf, valuesOf};
 ghost use Rattle.guideline.specs.Column.{ColumnFor, rangedOf, columnRanged, PrintableColumn, columnDecimals};
 ghost use Rattle.guideline_rules.proofs.Accepted.{Accepted};
 ghost use Rattle.guideline_rules.specs.Guideline.{zeroSide, refused as refusedOf, workedOut, guidelineOf};
+
+// The exponents -1000 and 1000, between which a number is in range.
+const BELOW: u64 = BIAS - 1000;
+
+const ABOVE: u64 = BIAS + 1000;
 
 // The guidelines of a side as numbers, with the sum of the terms.
 pub struct Column {
@@ -79,7 +85,7 @@ pub fn columns_of(tr: Number, thi: Number, t: Terms) -> Columns
 fn ranged(r: Number) -> bool
     ensures { λ b. ⌜ b ≡ rangedOf r ⌝ }
 {
-    both(2000 < r.x, r.x < 4000)
+    both(BELOW < r.x, r.x < ABOVE)
 }
 
 // Whether the terms of a side, their sum and its guidelines are in range.

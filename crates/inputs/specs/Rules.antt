@@ -9,6 +9,10 @@ use Rattle.inputs.specs.declared.Contaminant.{Contaminant}
 use Rattle.inputs.specs.Inputs.{scenarioDecimals, contaminantDecimals}
 use Rattle.inputs.specs.Valid.{allValid}
 
+-- a list or a site has 1 to 120 contaminants
+abbrev pub mostContaminants : ℕ
+mostContaminants = 120
+
 -- 4: a decimal or the medium breaks its rule
 abbrev pub oneOrTwo : ℕ → Bool
 oneOrTwo n = eqb n 1 || eqb n 2

@@ -1,12 +1,21 @@
 // A land-use scenario and a contaminant record, as a file or a caller gives them.
 use decimal::Decimal;
 use outcome::Refusal;
+use rounding::BIAS;
 ghost use mathlib.Core.Bool.{_&&_};
 ghost use mathlib.Core.Path.{_≡_};
 ghost use Rattle.inputs.specs.BuiltIn.{builtInOf};
 ghost use Rattle.inputs.specs.Inputs.{scenarioDecimals, contaminantDecimals};
 ghost use Rattle.inputs.specs.Rules.{oneOrTwo, scenarioFits, contaminantFits, lacksFactor};
 ghost use Rattle.inputs.specs.Valid.{validOf, allValid};
+
+// A list or a site has 1 to 120 contaminants.
+pub const MOST_CONTAMINANTS: u32 = 120;
+
+// The exponents -20 and 20 of a file or record.
+const LEAST: u64 = BIAS - 20;
+
+const GREATEST: u64 = BIAS + 20;
 
 // The twelve factors of a scenario. Zero means not known, or not part of this scenario.
 pub struct Scenario {
@@ -186,10 +195,10 @@ pub fn valid(d: Decimal) -> bool
     let m = d.m;
     let e = d.e;
     let x = decimal::biased_exponent(e);
-    let low = 2980 <= x;
-    let high = x <= 3020;
+    let low = LEAST <= x;
+    let high = x <= GREATEST;
     let range = both(low, high);
-    let zero = both(m == 0, x != 3000);
+    let zero = both(m == 0, x != BIAS);
     both(m <= 999_999_999, both(range, !zero))
 }
 

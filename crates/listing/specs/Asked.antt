@@ -3,6 +3,8 @@ use mathlib.Core.Path.{_≡_}
 use mathlib.Core.List.{List, [], _++_}
 use Prim.Native.Nat.{ℕ, zero, suc, _+_, _*_, _≤_}
 use lib.ListN.{length}
+use Rattle.inputs.specs.Rules.{mostContaminants}
+use Rattle.block_rules.specs.Rules.{blockSize}
 use Rattle.outcome.specs.Outcome.{numberOf}
 use Rattle.words.specs.Words.{wordAt}
 use Rattle.fields.specs.Fields.{decimalAt}
@@ -33,8 +35,8 @@ blockText results count a = blockLinesTo results count ++ sumLine 0 (a .risk) ++
 
 -- so many blocks behind the first, and room for a whole listing
 pub record Listing (results out : List ℕ) (count : ℕ) : Type 0 where
-  pub long : 512 * count + 512 ≤ length results
-  pub most : count ≤ 120
+  pub long : blockSize * count + blockSize ≤ length results
+  pub most : count ≤ mostContaminants
   pub room : 24576 ≤ length out
 
 -- the result blocks of a site whose header was found: they spell the lines of its contaminants

@@ -1,9 +1,11 @@
 // The listing of a site: its guidelines, sums and verdicts as text.
+use block_rules::BLOCK_SIZE;
 use guideline_rules::SideGuidelines;
 use sum_rules::SumsAnswer;
 ghost use mathlib.Core.Path.{_≡_};
 ghost use Prim.Native.Nat.{_+_, _≤_};
 ghost use lib.ListN.{length};
+ghost use Rattle.block_rules.specs.Rules.{blockSize};
 ghost use Rattle.words.specs.Bytes.{placed, over};
 ghost use Rattle.site_rules.specs.Site.{siteAnswer};
 ghost use Rattle.site_rules.specs.Results.{siteLeft};
@@ -31,7 +33,7 @@ fn get_side(block: &[u8], at: usize) -> SideGuidelines
 
 // The lines that a result block spells, from `at` on.
 fn put_place(block: &[u8], out: &mut [u8], at: usize) -> usize
-    requires { ⌜ (512 ≤ length (now block)) × (at + 192 ≤ length (now out)) ⌝ }
+    requires { ⌜ (blockSize ≤ length (now block)) × (at + 192 ≤ length (now out)) ⌝ }
     ensures { λ end. ⌜ (end ≡ at + length (blockLines (now (block .entry)))) × (now (out .exit) ≡ placed (now (out .entry)) at (blockLines (now (block .entry)))) ⌝ }
 {
     let class = words::word(block, 8);
@@ -50,8 +52,8 @@ fn put_places(results: &[u8], count: u32, out: &mut [u8]) -> usize
     let mut k: u32 = 0;
     while k < count {
         let place = k + 1;
-        let from = 512 * (place as usize);
-        let to = from + 512;
+        let from = BLOCK_SIZE * (place as usize);
+        let to = from + BLOCK_SIZE;
         at = put_place(&results[from..to], out, at);
         k += 1;
     }
@@ -80,7 +82,7 @@ fn put_listing(site: &[u8], results: &[u8], a: SumsAnswer, out: &mut [u8]) -> us
     if n != 0 {
         return lines::put_refusal(out, 0, n, a.block);
     }
-    let count = (site.len() / 512) as u32 - 1;
+    let count = (site.len() / BLOCK_SIZE) as u32 - 1;
     put_accepted(results, count, a, out)
 }
 

@@ -1,3 +1,4 @@
+pub mod Sizes
 pub mod Direction
 pub mod Within
 pub mod Number

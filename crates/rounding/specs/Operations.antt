@@ -2,23 +2,24 @@
 use mathlib.Core.Bool.{cond}
 use Prim.Native.Nat.{ℕ, _+_, _-_, _*_, _^_}
 use lib.Dec.{leb}
+use Rattle.rounding.specs.Sizes.{nineDigits, bias}
 use Rattle.rounding.specs.declared.Direction.{Direction}
 use Rattle.rounding.specs.declared.Number.{Number}
 use Rattle.rounding.specs.Number.{rankOf}
 use Rattle.rounding.specs.Round.{roundOf}
 
 unfoldable pub productOf : Direction → Number → Number → Number
-productOf dir p q = roundOf dir (p .m * q .m) 100000000 (p .x + q .x - 2992)
+productOf dir p q = roundOf dir (p .m * q .m) 100000000 (p .x + q .x - (bias - 8))
 
 -- the dividend and the divisor of a quotient: a divisor of fewer than nine digits is zero, and gives zero
 abbrev pub dividendOf : Number → Number → ℕ
-dividendOf p q = cond (leb 100000000 (q .m)) (p .m * 1000000000) 0
+dividendOf p q = cond (leb nineDigits (q .m)) (p .m * 1000000000) 0
 
 abbrev pub divisorOf : Number → ℕ
-divisorOf q = cond (leb 100000000 (q .m)) (q .m) 1
+divisorOf q = cond (leb nineDigits (q .m)) (q .m) 1
 
 unfoldable pub quotientOf : Direction → Number → Number → Number
-quotientOf dir p q = roundOf dir (dividendOf p q) (divisorOf q) (p .x + 2991 - q .x)
+quotientOf dir p q = roundOf dir (dividendOf p q) (divisorOf q) (p .x + (bias - 9) - q .x)
 
 -- p + q, where q does not come after p in the order of exponents: both over the power of ten between them
 abbrev pub gapOf : Number → Number → ℕ

@@ -2,6 +2,7 @@
 use mathlib.Core.Bool.{cond}
 use Prim.Native.Nat.{ℕ, _+_, _-_, _*_, _/_, _^_}
 use lib.Dec.{ltb}
+use Rattle.rounding.specs.Sizes.{tenDigits}
 use Rattle.rounding.specs.declared.Direction.{Direction}
 use Rattle.rounding.specs.declared.Direction.the-variants.{Down, Up}
 use Rattle.rounding.specs.declared.Number.{Number}
@@ -26,7 +27,7 @@ divideOf dir n d = (n + extraOf dir d) / d
 
 -- q * 10^x with nine digits, where q has nine or ten
 unfoldable pub cutOf : Direction → ℕ → ℕ → Number
-cutOf dir q x = cond (ltb q 1000000000) (record { m = q; x = x }) (record { m = divideOf dir q 10; x = x + 1 })
+cutOf dir q x = cond (ltb q tenDigits) (record { m = q; x = x }) (record { m = divideOf dir q 10; x = x + 1 })
 
 -- n / d * 10^x with nine digits, where n / d is zero or has nine or ten digits before its point
 unfoldable pub roundOf : Direction → ℕ → ℕ → ℕ → Number

@@ -4,11 +4,25 @@
 ghost use mathlib.Core.Path.{_≡_};
 ghost use Prim.Native.Nat.{_+_, _-_, _*_, _^_, _≤_, _<_};
 ghost use lib.Dec.{leb};
+ghost use Rattle.rounding.specs.Sizes.{tenDigits, bias};
 ghost use Rattle.rounding.specs.Round.{extraOf, divideOf, cutOf};
 ghost use Rattle.rounding.specs.Number.{Working, InRange, Result, SumResult, rankOf, atMostOf};
 ghost use Rattle.rounding.specs.Operations.{productOf, quotientOf, alignedOf, sumOf};
 ghost use Rattle.rounding.specs.WorkingForm.{raiseBy, nineOf, NineResult};
 ghost use mathlib.Core.Bool.{cond};
+
+// The least number of nine digits, and the least of ten.
+pub const NINE_DIGITS: u64 = 100_000_000;
+
+pub const TEN_DIGITS: u64 = 1_000_000_000;
+
+// The exponent e is kept as e + 3000.
+pub const BIAS: u64 = 3000;
+
+// The exponent of nine digits before the point, and of ten.
+const NINE_PLACES: u64 = BIAS - 8;
+
+const TEN_PLACES: u64 = BIAS - 9;
 
 // Which way a result is rounded.
 pub enum Direction {
@@ -70,7 +84,7 @@ fn cut(q: u64, x: u64, dir: Direction) -> Number
     ensures { λ r. ⌜ (r ≡ cutOf dir q x) × Result x r ⌝ }
 {
     let tenth = divide(q, 10, dir);
-    let short = q < 1_000_000_000;
+    let short = q < TEN_DIGITS;
     Number {
         m: pick(short, q, tenth),
         x: pick(short, x, x + 1),
@@ -111,34 +125,40 @@ fn aligned(p: Number, q: Number, dir: Direction) -> Number
 
 // The number times 10^k, k from 1 to 4, where that leaves at most nine digits.
 fn raised(r: Number, k: u64) -> Number
-    requires { ⌜ (r .m < 1000000000) × ((k ≤ 4) × (k ≤ r .x)) ⌝ }
+    requires { ⌜ (r .m < tenDigits) × ((k ≤ 4) × (k ≤ r .x)) ⌝ }
     ensures { λ s. ⌜ s ≡ raiseBy k r ⌝ }
 {
     let m = r.m * power(k);
     let x = r.x - k;
-    choose(m < 1_000_000_000, Number { m, x }, r)
+    choose(m < TEN_DIGITS, Number { m, x }, r)
 }
 
 impl Number {
+    // Zero, with the exponent of a number of nine digits before the point.
+    pub const ZERO: Number = Number {
+        m: 0,
+        x: NINE_PLACES,
+    };
+
     // The product, rounded.
     pub fn mul(self, other: Number, dir: Direction) -> Number
         requires { ⌜ InRange self × InRange other ⌝ }
-        ensures { λ r. ⌜ (r ≡ productOf dir self other) × Result (self .x + other .x - 2992) r ⌝ }
+        ensures { λ r. ⌜ (r ≡ productOf dir self other) × Result (self .x + other .x - (bias - 8)) r ⌝ }
     {
         let n = self.m * other.m;
-        let x = self.x + other.x - 2992;
+        let x = self.x + other.x - NINE_PLACES;
         cut(divide(n, 100_000_000, dir), x, dir)
     }
 
     // The quotient, rounded; zero where the divisor is zero.
     pub fn div(self, other: Number, dir: Direction) -> Number
         requires { ⌜ InRange self × InRange other ⌝ }
-        ensures { λ r. ⌜ (r ≡ quotientOf dir self other) × Result (self .x + 2991 - other .x) r ⌝ }
+        ensures { λ r. ⌜ (r ≡ quotientOf dir self other) × Result (self .x + (bias - 9) - other .x) r ⌝ }
     {
-        let some = 100_000_000 <= other.m;
+        let some = NINE_DIGITS <= other.m;
         let n = pick(some, self.m * 1_000_000_000, 0);
         let d = pick(some, other.m, 1);
-        let x = self.x + 2991 - other.x;
+        let x = self.x + TEN_PLACES - other.x;
         cut(divide(n, d, dir), x, dir)
     }
 
@@ -158,7 +178,7 @@ impl Number {
 
     // The same value with nine digits, of a number of one to nine.
     pub fn working(self) -> Number
-        requires { ⌜ (self .m < 1000000000) × (11 ≤ self .x) ⌝ }
+        requires { ⌜ (self .m < tenDigits) × (11 ≤ self .x) ⌝ }
         ensures { λ s. ⌜ (s ≡ nineOf self) × NineResult self s ⌝ }
     {
         let a = raised(self, 4);

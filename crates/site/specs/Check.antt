@@ -4,12 +4,13 @@ use mathlib.Core.Bool.{true, false, _||_, cond}
 use mathlib.Core.List.{List, _++_}
 use Prim.Native.Nat.{ℕ, zero, suc, _+_, _*_, _≤_, _<_}
 use lib.ListN.{length}
+use Rattle.block_rules.specs.Rules.{blockSize}
 use Rattle.outcome.specs.Outcome.{answer}
 use Rattle.outcome.specs.declared.Refusal.{Refusal}
 use Rattle.outcome.specs.declared.Refusal.the-variants.{Accepted, Pathway}
 use Rattle.inputs.specs.declared.Scenario.{Scenario}
 use Rattle.inputs.specs.declared.Contaminant.{Contaminant}
-use Rattle.inputs.specs.Rules.{scenarioFits, lacksFactor}
+use Rattle.inputs.specs.Rules.{scenarioFits, lacksFactor, mostContaminants}
 use Rattle.words.specs.Bytes.{over}
 use Rattle.block_rules.specs.declared.ContaminantRead.{ContaminantRead}
 use Rattle.block_rules.specs.declared.ContaminantRead.the-variants as C
@@ -41,23 +42,23 @@ checkBlocks s medium site (suc n) k before =
 pub record Checking (s : Scenario) (medium : ℕ) (site : List ℕ) (count : ℕ) : Type 0 where
   pub fits : scenarioFits s medium ≡ true
   pub known : lacksFactor s ≡ false
-  pub long : 512 * count + 512 ≤ length site
-  pub most : count ≤ 120
+  pub long : blockSize * count + blockSize ≤ length site
+  pub most : count ≤ mostContaminants
 
 -- a plan for the records of a site, all of them so
 pub record Writing (p : Plan) (site : List ℕ) (count : ℕ) : Type 0 where
   pub ready : PlanReady p
   pub passed : PlanFits p
-  pub long : 512 * count + 512 ≤ length site
-  pub most : count ≤ 120
+  pub long : blockSize * count + blockSize ≤ length site
+  pub most : count ≤ mostContaminants
   pub records : (k : ℕ) → 1 ≤ k → k < 1 + count → RecordOk (p .scenario) (p .medium) (recordAt site k)
 
 -- one block of them
 pub record WritingOne (p : Plan) (site : List ℕ) (place : ℕ) (x : Runs) : Type 0 where
   pub ready : PlanReady p
   pub passed : PlanFits p
-  pub long : 512 * place + 512 ≤ length site
-  pub most : place ≤ 120
+  pub long : blockSize * place + blockSize ≤ length site
+  pub most : place ≤ mostContaminants
   pub ok : RecordOk (p .scenario) (p .medium) (recordAt site place)
   pub runs : RunsReady (632 + place) x
 

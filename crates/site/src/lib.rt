@@ -1,4 +1,5 @@
 // The site call: the blocks of a site are checked one by one; then each has its result block in the output.
+use block_rules::BLOCK_SIZE;
 use block_rules::ContaminantRead;
 use block_rules::Header;
 use block_rules::HeaderRead;
@@ -12,6 +13,7 @@ ghost use mathlib.Core.Path.{_≡_};
 ghost use mathlib.Core.List.{_++_};
 ghost use Prim.Native.Nat.{_+_, _*_, _≤_};
 ghost use lib.ListN.{length, take};
+ghost use Rattle.block_rules.specs.Rules.{blockSize};
 ghost use Rattle.words.specs.Bytes.{over};
 ghost use Rattle.site_rules.specs.Site.{lengthOk, siteAnswer};
 ghost use Rattle.site_rules.specs.Results.{recordAt, resultAt, resultsTo, siteLeft, recordsFrom, allSums};
@@ -19,12 +21,17 @@ ghost use Rattle.site.specs.Check.{checkBlocks, Checking, Writing, Writi
 ghost use Rattle.site_rules.specs.Passed.{Opened};
 ghost use Rattle.sums.specs.State.{NextRuns};
 
+// The bytes of a site with one contaminant, and with 120.
+const LEAST: usize = 2 * BLOCK_SIZE;
+
+const MOST: usize = 121 * BLOCK_SIZE;
+
 // Whether a site may have so many bytes.
 fn length_ok(n: usize) -> bool
     ensures { λ b. ⌜ b ≡ lengthOk n ⌝ }
 {
-    let enough = inputs::both(1024 <= n, n <= 61952);
-    inputs::both(enough, n % 512 == 0)
+    let enough = inputs::both(LEAST <= n, n <= MOST);
+    inputs::both(enough, n % BLOCK_SIZE == 0)
 }
 
 // The first refusal of the contaminant blocks, in their order. Refusal 8 depends on zero fields only, so no term is
@@ -37,7 +44,7 @@ fn check_blocks(site: &[u8], s: Scenario, medium: u32, count: u32) -> Answer
     let mut previous: u32 = 0;
     while k < count {
         let place = k + 1;
-        let at = 512 * (place as usize);
+        let at = BLOCK_SIZE * (place as usize);
         match blocks::read_contaminant(site, at, place, previous) {
             ContaminantRead::Refused(m) => {
                 return Answer {
@@ -65,10 +72,10 @@ fn check_blocks(site: &[u8], s: Scenario, medium: u32, count: u32) -> Answer
 
 // Works out the contaminant of one block, writes its result block and adds its shares to the sums.
 fn put_block(site: &[u8], p: Plan, place: u32, x: Runs, out: &mut [u8]) -> Runs
-    requires { ⌜ WritingOne p (now site) place x × (512 ≤ length (now out)) ⌝ }
+    requires { ⌜ WritingOne p (now site) place x × (blockSize ≤ length (now out)) ⌝ }
     ensures { λ y. ⌜ NextRuns p (recordAt (now (site .entry)) place) place x y × (now (out .exit) ≡ over (resultAt (p .scenario) (p .medium) (now (site .entry)) place) (now (out .entry))) ⌝ }
 {
-    let at = 512 * (place as usize);
+    let at = BLOCK_SIZE * (place as usize);
     let from = at + 4;
     let to = at + 508;
     let r = blocks::get_contaminant(&site[from..to], 4);
@@ -82,15 +89,15 @@ fn put_block(site: &[u8], p: Plan, place: u32, x: Runs, out: &mut [u8]) -> Runs
 
 // The result blocks of all contaminants, each in its own part of the output, and their sums.
 fn put_blocks(site: &[u8], p: Plan, count: u32, out: &mut [u8]) -> Runs
-    requires { ⌜ Writing p (now site) count × (512 * count + 512 ≤ length (now out)) ⌝ }
-    ensures { λ y. ⌜ AllAdded p (now (site .entry)) count y × (now (out .exit) ≡ over (take 512 (now (out .entry)) ++ resultsTo (p .scenario) (p .medium) (now (site .entry)) count) (now (out .entry))) ⌝ }
+    requires { ⌜ Writing p (now site) count × (blockSize * count + blockSize ≤ length (now out)) ⌝ }
+    ensures { λ y. ⌜ AllAdded p (now (site .entry)) count y × (now (out .exit) ≡ over (take blockSize (now (out .entry)) ++ resultsTo (p .scenario) (p .medium) (now (site .entry)) count) (now (out .entry))) ⌝ }
 {
     let mut x = sums::no_runs();
     let mut k: u32 = 0;
     while k < count {
         let place = k + 1;
-        let a = 512 * (place as usize);
-        let b = a + 512;
+        let a = BLOCK_SIZE * (place as usize);
+        let b = a + BLOCK_SIZE;
         x = put_block(site, p, place, x, &mut out[a..b]);
         k += 1;
     }
@@ -99,14 +106,14 @@ fn put_blocks(site: &[u8], p: Plan, count: u32, out: &mut [u8]) -> Runs
 
 // The result blocks and, at place 0, the summary.
 fn put_results(site: &[u8], p: Plan, count: u32, out: &mut [u8]) -> SumsAnswer
-    requires { ⌜ Writing p (now site) count × (512 * count + 512 ≤ length (now out)) ⌝ }
+    requires { ⌜ Writing p (now site) count × (blockSize * count + blockSize ≤ length (now out)) ⌝ }
     ensures { λ a. ⌜ (a ≡ allSums (p .scenario) (p .medium) (recordsFrom (now (site .entry)) count 1)) × (now (out .exit) ≡ over (blocksOf (p .scenario) (p .medium) (now (site .entry)) count a) (now (out .entry))) ⌝ }
 {
     let x = put_blocks(site, p, count, out);
     let a = sums::reported(p, x);
     let risk = a.risk;
     let hazard = a.hazard;
-    writers::put_summary(&mut out[0..512], risk, hazard);
+    writers::put_summary(&mut out[0..BLOCK_SIZE], risk, hazard);
     a
 }
 
@@ -137,7 +144,7 @@ pub fn evaluate(site: &[u8], out: &mut [u8]) -> SumsAnswer
     if !length_ok(n) {
         return sums::refused(Refusal::Length, 0);
     }
-    let blocks = (n / 512) as u32;
+    let blocks = (n / BLOCK_SIZE) as u32;
     match blocks::read_header(site, blocks) {
         HeaderRead::Refused(m) => sums::refused(m, 0),
         HeaderRead::Found(h) => evaluate_blocks(site, h, out),

@@ -4,6 +4,7 @@ use mathlib.Core.Bool.{true, _||_}
 use mathlib.Core.List.{List}
 use Prim.Native.Nat.{ℕ, _/_}
 use lib.ListN.{length}
+use Rattle.block_rules.specs.Rules.{blockSize}
 use Rattle.inputs.specs.declared.Scenario.{Scenario}
 use Rattle.inputs.specs.declared.Contaminant.{Contaminant}
 use Rattle.inputs.specs.Rules.{contaminantFits}
@@ -18,7 +19,7 @@ use Rattle.site_rules.specs.Site.{blockAt, lengthOk}
 -- a site whose header was found
 pub record Opened (site : List ℕ) (h : Header) : Type 0 where
   pub right : lengthOk (length site) ≡ true
-  pub header : headerRead (blockAt site 0) (length site / 512) ≡ H.Found h
+  pub header : headerRead (blockAt site 0) (length site / blockSize) ≡ H.Found h
 
 -- a record that keeps its rules and has a pathway
 pub record RecordOk (s : Scenario) (medium : ℕ) (r : Contaminant) : Type 0 where

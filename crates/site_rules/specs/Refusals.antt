@@ -11,7 +11,7 @@ use Rattle.outcome.specs.declared.Refusal.the-variants.{Length, Check, Kind, Fi
 use Rattle.words.specs.Words.{wordAt}
 use Rattle.inputs.specs.declared.Scenario.{Scenario}
 use Rattle.inputs.specs.Rules.{scenarioFits, lacksFactor, contaminantFits}
-use Rattle.block_rules.specs.Rules.{countOk}
+use Rattle.block_rules.specs.Rules.{countOk, blockSize}
 use Rattle.block_rules.specs.Reading.{soundAt, headerUnused, contaminantUnused}
 use Rattle.guideline_rules.specs.Guideline.{allRanged}
 use Rattle.sum_rules.specs.declared.SumsAnswer.{SumsAnswer}
@@ -52,7 +52,7 @@ blockFieldCondition site k = condition Field k (not (contaminantFits (recordAt s
 
 -- 5 Count: count is not blocks less one. `countOk` also asks for 1 to 120, which says no more once 1 is passed (`count-plain` of the proofs)
 abbrev pub countCondition : List ℕ → Condition
-countCondition site = condition Count 0 (not (countOk (headerOf site .count) (length site / 512)))
+countCondition site = condition Count 0 (not (countOk (headerOf site .count) (length site / blockSize)))
 
 -- 6 Factor: EF, ED, BW, AT, TR or THI zero
 abbrev pub factorCondition : List ℕ → Condition

@@ -4,9 +4,11 @@ use mathlib.Core.List.{List}
 use mathlib.Core.Bool.{Bool, _&&_, _||_, cond}
 use lib.ListN.{length}
 use lib.Dec.{eqb, leb, ltb}
+use Rattle.block_rules.specs.Rules.{blockSize}
 use Rattle.outcome.specs.declared.Refusal.{Refusal}
 use Rattle.outcome.specs.declared.Refusal.the-variants.{Length, Pathway, Range, Room}
 use Rattle.outcome.specs.Outcome.{numberOf}
+use Rattle.inputs.specs.Rules.{mostContaminants}
 use Rattle.inputs.specs.declared.Scenario.{Scenario}
 use Rattle.inputs.specs.declared.Contaminant.{Contaminant}
 use Rattle.words.specs.Words.{partOf}
@@ -23,11 +25,11 @@ use Rattle.sum_rules.specs.ListCall.{blockDecimals, refused, accepted}
 
 -- 1: at least 1,024 and at most 61,952 bytes, and a multiple of 512
 unfoldable pub lengthOk : ℕ → Bool
-lengthOk n = leb 1024 n && (leb n 61952 && eqb (n % 512) 0)
+lengthOk n = leb (2 * blockSize) n && (leb n ((mostContaminants + 1) * blockSize) && eqb (n % blockSize) 0)
 
 -- the block at a place
 unfoldable pub blockAt : List ℕ → ℕ → List ℕ
-blockAt site k = partOf site (512 * k) 512
+blockAt site k = partOf site (blockSize * k) blockSize
 
 -- a block that is refused, or what it holds
 abbrev pub onHeader : HeaderRead → (Refusal → SumsAnswer) → (Header → SumsAnswer) → SumsAnswer
@@ -58,6 +60,6 @@ withRoom site out a = cond (eqb (numberOf (a .refusal)) 0) (cond (ltb out site) 
 unfoldable pub siteAnswer : List ℕ → ℕ → SumsAnswer
 siteAnswer site out =
     cond (lengthOk (length site))
-    (onHeader (headerRead (blockAt site 0) (length site / 512)) (λ (m : Refusal). refused m 0)
+    (onHeader (headerRead (blockAt site 0) (length site / blockSize)) (λ (m : Refusal). refused m 0)
     (λ (h : Header). withRoom (length site) out (walkBlocks (h .scenario) (h .medium) site (h .count) 1 0 start start)))
     (refused Length 0)

@@ -12,7 +12,7 @@ use Rattle.outcome.specs.Outcome.{numberOf}
 use Rattle.outcome.specs.declared.Refusal.the-variants.{Accepted, Length, Field, Factor, Order, Pathway, Range}
 use Rattle.inputs.specs.declared.Scenario.{Scenario}
 use Rattle.inputs.specs.declared.Contaminant.{Contaminant}
-use Rattle.inputs.specs.Rules.{scenarioFits, lacksFactor, contaminantFits}
+use Rattle.inputs.specs.Rules.{scenarioFits, lacksFactor, contaminantFits, mostContaminants}
 use Rattle.formulas.specs.Formula.{none, pathwaysOf}
 use Rattle.formulas.specs.Term.{termOf, inputsOf, valuesOf}
 use Rattle.guideline_rules.specs.Guideline.{allRanged, sideDecimals}
@@ -55,7 +55,7 @@ accepted s risk hazard = record { refusal = Accepted; block = 0; risk = sideSums
 
 -- ---- before the first of n records: 1 for a list of none or over 120, then 4 and 6
 abbrev pub firstRefusal : Scenario → ℕ → ℕ → Refusal
-firstRefusal s medium n = cond (leb 1 n && leb n 120) (cond (scenarioFits s medium) (cond (lacksFactor s) Factor Accepted) Field) Length
+firstRefusal s medium n = cond (leb 1 n && leb n mostContaminants) (cond (scenarioFits s medium) (cond (lacksFactor s) Factor Accepted) Field) Length
 
 -- ---- record by record, the n-th counting as block n: 4, 7, 8, 9
 unfoldable pub walk : Scenario → ℕ → List Contaminant → ℕ → ℕ → Running → Running → SumsAnswer

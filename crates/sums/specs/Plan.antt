@@ -1,8 +1,9 @@
 -- What a scenario gives to every record, and what a record adds to the running sums: what the functions of `shares` promise.
 use mathlib.Core.Path.{_≡_}
 use mathlib.Core.Bool.{true, false, not, _||_}
-use Prim.Native.Nat.{ℕ, _≤_, _<_}
+use Prim.Native.Nat.{ℕ, _≤_, _<_, _-_}
 use lib.Dec.{eqb}
+use Rattle.rounding.specs.Sizes.{tenDigits, bias}
 use Rattle.rounding.specs.declared.Direction.the-variants.{Down, Up}
 use Rattle.rounding.specs.declared.Number.{Number}
 use Rattle.rounding.specs.Operations.{productOf, sumOf}
@@ -77,8 +78,8 @@ pub record WorkedFor (p : Plan) (r : Contaminant) (w : Worked) : Type 0 where
 -- ---- the running sums, as numbers
 abbrev pub noRuns : Runs
 noRuns = record {
-  risk = record { lower = record { m = 0; x = 2992 }; upper = record { m = 0; x = 2992 }; any = false };
-  hazard = record { lower = record { m = 0; x = 2992 }; upper = record { m = 0; x = 2992 }; any = false };
+  risk = record { lower = record { m = 0; x = (bias - 8) }; upper = record { m = 0; x = (bias - 8) }; any = false };
+  hazard = record { lower = record { m = 0; x = (bias - 8) }; upper = record { m = 0; x = (bias - 8) }; any = false };
 }
 
 -- what they stand for
@@ -87,7 +88,7 @@ runningOf x = record { lower = decimalOf (x .lower); upper = decimalOf (x .upper
 
 -- sums that leave room for a share
 pub record NumberSize (r : Number) : Type 0 where
-  pub most : r .m < 1000000000
+  pub most : r .m < tenDigits
   pub low : 2239 ≤ r .x
   pub high : r .x ≤ 3745
 

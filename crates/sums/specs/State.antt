@@ -13,7 +13,7 @@ use Rattle.outcome.specs.declared.Refusal.the-variants.{Accepted, Field, Order,
 use Rattle.outcome.specs.Outcome.{numberOf}
 use Rattle.inputs.specs.declared.Scenario.{Scenario}
 use Rattle.inputs.specs.declared.Contaminant.{Contaminant}
-use Rattle.inputs.specs.Rules.{contaminantFits}
+use Rattle.inputs.specs.Rules.{contaminantFits, mostContaminants}
 use Rattle.terms.specs.Stands.{Stands}
 use Rattle.sums.specs.declared.shares.Plan.{Plan}
 use Rattle.sums.specs.declared.shares.SideRun.{SideRun}
@@ -46,7 +46,7 @@ answerFrom p t rs =
 
 -- the places of the rest end at 120
 pub record Room (t : State) (rs : List Contaminant) : Type 0 where
-  pub room : numberOf (t .refusal) ≡ 0 → t .place + length rs ≤ 121
+  pub room : numberOf (t .refusal) ≡ 0 → t .place + length rs ≤ mostContaminants + 1
 
 -- the sums of a side after some records, with the range of their exponents
 pub record SideReady (w : ℕ) (x : SideRun) : Type 0 where
@@ -66,7 +66,7 @@ pub record NextRuns (p : Plan) (r : Contaminant) (place : ℕ) (x y : Runs) : Ty
 -- what every state keeps
 pub record Good (p : Plan) (t : State) : Type 0 where
   pub ready : PlanReady p
-  pub place : t .place ≤ 121
+  pub place : t .place ≤ mostContaminants + 1
   pub runs : RunsReady (632 + t .place) (t .runs)
   pub passed : numberOf (t .refusal) ≡ 0 → PlanFits p
 
@@ -89,7 +89,7 @@ movedOf t id runs = record { place = t .place + 1; previous = id; refusal = t .r
 pub record Advancing (p : Plan) (t : State) (r : Contaminant) : Type 0 where
   pub good : Good p t
   pub accepted : numberOf (t .refusal) ≡ 0
-  pub place : t .place ≤ 120
+  pub place : t .place ≤ mostContaminants
   pub fits : contaminantFits r ≡ true
   pub rising : leb (r .id) (t .previous) ≡ false
 

@@ -6,6 +6,7 @@ use crate::shares::Runs;
 use crate::shares::SideRun;
 use decimal::Decimal;
 use inputs::Contaminant;
+use inputs::MOST_CONTAMINANTS;
 use inputs::contaminant_fits;
 use outcome::Refusal;
 use outcome::accepted;
@@ -19,6 +20,7 @@ use terms::pathways::total;
 ghost use mathlib.Core.Path.{_≡_};
 ghost use mathlib.Core.List.{[]};
 ghost use Prim.Native.Nat.{_≤_};
+ghost use Rattle.inputs.specs.Rules.{mostContaminants};
 ghost use Rattle.sum_rules.specs.Verdict.{verdictNumber, verdictOf};
 ghost use Rattle.sum_rules.specs.ListCall.{refused as refusedOf};
 ghost use Rattle.decimal.specs.Decimal.{decimalOf};
@@ -69,7 +71,7 @@ fn judge(any: bool, lower: Number, upper: Number, target: Number) -> Verdict
 pub fn no_runs() -> Runs
     ensures { λ x. ⌜ x ≡ noRuns ⌝ }
 {
-    let zero = Number { m: 0, x: 2992 };
+    let zero = Number::ZERO;
     let none = SideRun {
         lower: zero,
         upper: zero,
@@ -111,7 +113,7 @@ fn refuse(t: State, refusal: Refusal) -> State
 
 // The state after a record: its id and the new sums.
 fn moved(t: State, id: u32, runs: Runs) -> State
-    requires { ⌜ t .place ≤ 120 ⌝ }
+    requires { ⌜ t .place ≤ mostContaminants ⌝ }
     ensures { λ u. ⌜ u ≡ movedOf t id runs ⌝ }
 {
     let refusal = t.refusal;
@@ -145,7 +147,7 @@ pub fn step(p: Plan, t: State, r: Contaminant) -> State
 {
     let refusal = t.refusal;
     if accepted(refusal) {
-        if 120 < t.place {
+        if MOST_CONTAMINANTS < t.place {
             return t;
         }
         if contaminant_fits(r) {

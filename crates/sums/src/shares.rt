@@ -21,6 +21,9 @@ ghost use Rattle.terms.specs.Stands.{Input};
 ghost use Rattle.sum_rules.specs.ListCall.{firstRefusal};
 ghost use Rattle.sums.specs.Plan.{Planned, Begun, Workable, WorkedFor, RunSize, Shared, Addable, Added};
 
+// The most contaminants of a list, as a length.
+const MOST: usize = inputs::MOST_CONTAMINANTS as usize;
+
 // What does not change from record to record: the scenario, the medium, and what is worked out of them in both
 // directions; and the refusal that comes before the first record.
 pub struct Plan {
@@ -59,7 +62,7 @@ fn first_refusal(s: Scenario, medium: u32, n: usize) -> Refusal
     if n == 0 {
         return Refusal::Length;
     }
-    if 120 < n {
+    if MOST < n {
         return Refusal::Length;
     }
     if !scenario_fits(s, medium) {

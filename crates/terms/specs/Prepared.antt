@@ -2,6 +2,7 @@
 use mathlib.Core.List.{List, [], _∷_}
 use Prim.Native.Nat.{ℕ, _+_, _≤_, _<_}
 use lib.IntN.{pos, negsuc}
+use Rattle.rounding.specs.Sizes.{tenDigits}
 use Rattle.rounding.specs.declared.Direction.{Direction}
 use Rattle.rounding.specs.declared.Number.{Number}
 use Rattle.rounding.specs.Direction.{opposite}
@@ -15,13 +16,13 @@ use Rattle.terms.specs.Stands.{Stands, ReadyFactors}
 
 -- a number that can be multiplied twice and stay in range
 pub record Middle (r : Number) : Type 0 where
-  pub most : r .m < 1000000000
+  pub most : r .m < tenDigits
   pub low : 2692 ≤ r .x
   pub high : r .x ≤ 3292
 
 -- the size of a product of three
 pub record Product3 (a b c r : Number) : Type 0 where
-  pub most : r .m < 1000000000
+  pub most : r .m < tenDigits
   pub low : a .x + b .x + c .x ≤ r .x + 5984
   pub high : r .x + 5984 ≤ a .x + b .x + c .x + 2
 

@@ -1,7 +1,8 @@
 -- What the code's terms of a side stand for: the terms of the table's formulas over the decimals that its numbers stand for.
 use mathlib.Core.List.{List, [], _∷_, _++_, map}
-use Prim.Native.Nat.{ℕ, _≤_, _<_}
+use Prim.Native.Nat.{ℕ, _≤_, _<_, _-_}
 use lib.ListN.{getD}
+use Rattle.rounding.specs.Sizes.{tenDigits, bias}
 use Rattle.rounding.specs.declared.Direction.{Direction}
 use Rattle.rounding.specs.declared.Number.{Number}
 use Rattle.decimal.specs.declared.Decimal.{Decimal}
@@ -51,12 +52,12 @@ pub record TermsFor (dir : Direction) (f : Factors) (t : Toxicity) (medium class
   pub hazard : SideFor dir f t (pathwaysOf medium class 1) (r .hazard)
 
 abbrev pub noSide : Side
-noSide = record { first = record { m = 0; x = 2992 }; second = record { m = 0; x = 2992 }; third = record { m = 0; x = 2992 } }
+noSide = record { first = record { m = 0; x = (bias - 8) }; second = record { m = 0; x = (bias - 8) }; third = record { m = 0; x = (bias - 8) } }
 
 -- ---- the sum of a side's terms
 -- a number whose exponent leaves room for sums and a division
 pub record Wide (r : Number) : Type 0 where
-  pub most : r .m < 1000000000
+  pub most : r .m < tenDigits
   pub low : 2392 ≤ r .x
   pub high : r .x ≤ 3592
 
@@ -67,6 +68,6 @@ pub record WideSide (s : Side) : Type 0 where
 
 -- two exponents more at the most
 pub record TotalSize (r : Number) : Type 0 where
-  pub most : r .m < 1000000000
+  pub most : r .m < tenDigits
   pub low : 2392 ≤ r .x
   pub high : r .x ≤ 3594

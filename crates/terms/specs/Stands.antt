@@ -1,6 +1,7 @@
 -- A number of nine digits that stands for a working decimal, with the range of its exponent: what the code keeps of every value.
 use mathlib.Core.Path.{_≡_}
-use Prim.Native.Nat.{ℕ, _+_, _≤_, _<_}
+use Prim.Native.Nat.{ℕ, _+_, _≤_, _<_, _-_}
+use Rattle.rounding.specs.Sizes.{tenDigits, bias}
 use Rattle.rounding.specs.declared.Number.{Number}
 use Rattle.rounding.specs.Number.{Working}
 use Rattle.decimal.specs.declared.Decimal.{Decimal}
@@ -14,9 +15,9 @@ use Rattle.terms.specs.declared.numbers.Toxicity.{Toxicity}
 pub record Stands (w : ℕ) (r : Number) (d : Decimal) : Type 0 where
   pub is : decimalOf r ≡ d
   pub working : Working r
-  pub most : r .m < 1000000000
-  pub low : 2992 ≤ r .x + w
-  pub high : r .x ≤ 2992 + w
+  pub most : r .m < tenDigits
+  pub low : (bias - 8) ≤ r .x + w
+  pub high : r .x ≤ (bias - 8) + w
 
 pub record FactorsFor (s : Scenario) (f : Factors) : Type 0 where
   pub ef : Stands 28 (f .ef) (workingOf (s .ef))

@@ -31,8 +31,6 @@ pub struct Terms {
     pub hazard: Side,
 }
 
-const ZERO: Number = Number { m: 0, x: 2992 };
-
 // B = 1/VF + 1/PEF.
 fn air(p: Prepared, t: Toxicity, dir: Direction) -> Number
     requires { ⌜ Ready dir p t ⌝ }
@@ -52,7 +50,7 @@ fn soil_chemical_risk(p: Prepared, t: Toxicity, b: Number, dir: Direction) -> Si
     Side {
         first: swallowed.div(p.lifetime, dir),
         second: inhaled.div(p.lifetime, dir),
-        third: ZERO,
+        third: Number::ZERO,
     }
 }
 
@@ -68,7 +66,7 @@ fn soil_chemical_hazard(p: Prepared, t: Toxicity, b: Number, dir: Direction) -> 
     Side {
         first: p.soil_intake.div(oral, dir),
         second: product3(f.ira, b, f.ef, dir).div(inhaled, dir),
-        third: ZERO,
+        third: Number::ZERO,
     }
 }
 
@@ -129,8 +127,8 @@ fn water_radionuclide_risk(p: Prepared, t: Toxicity, dir: Direction) -> Side
     let f = p.factors;
     Side {
         first: product3(t.sfo.mul(f.ir, dir), f.ef, f.ed, dir),
-        second: ZERO,
-        third: ZERO,
+        second: Number::ZERO,
+        third: Number::ZERO,
     }
 }
 
@@ -139,9 +137,9 @@ fn no_side() -> Side
     ensures { λ s. ⌜ s ≡ noSide ⌝ }
 {
     Side {
-        first: ZERO,
-        second: ZERO,
-        third: ZERO,
+        first: Number::ZERO,
+        second: Number::ZERO,
+        third: Number::ZERO,
     }
 }
 

@@ -1,6 +1,8 @@
 // What the terms of a scenario have in common: the products that name no decimal of a contaminant, worked out once.
 use crate::numbers::Factors;
+use rounding::BIAS;
 use rounding::Direction;
+use rounding::NINE_DIGITS;
 use rounding::Number;
 ghost use mathlib.Core.Path.{_≡_};
 ghost use Rattle.rounding.specs.Direction.{opposite as oppositeOf};
@@ -10,33 +12,33 @@ ghost use Rattle.terms.specs.Prepared.{Middle, Product3, PreparedFor};
 
 // The constants 1, 10^-6, 10^-3, 0.5, 0.000114 and 365.
 pub const ONE: Number = Number {
-    m: 100_000_000,
-    x: 2992,
+    m: NINE_DIGITS,
+    x: BIAS - 8,
 };
 
 pub const MILLIONTH: Number = Number {
-    m: 100_000_000,
-    x: 2986,
+    m: NINE_DIGITS,
+    x: BIAS - 14,
 };
 
 pub const THOUSANDTH: Number = Number {
-    m: 100_000_000,
-    x: 2989,
+    m: NINE_DIGITS,
+    x: BIAS - 11,
 };
 
 pub const HALF: Number = Number {
     m: 500_000_000,
-    x: 2991,
+    x: BIAS - 9,
 };
 
 pub const YEARS_PER_HOUR: Number = Number {
     m: 114_000_000,
-    x: 2988,
+    x: BIAS - 12,
 };
 
 pub const DAYS: Number = Number {
     m: 365_000_000,
-    x: 2994,
+    x: BIAS - 6,
 };
 
 // The scenario's factors, and in a direction: the divisor BW, AT, 365 of every risk term of a chemical

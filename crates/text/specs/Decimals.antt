@@ -3,6 +3,7 @@ use Prim.Native.Nat.{ℕ, zero, suc, _+_, _-_, _/_, _%_}
 use mathlib.Core.List.{List, [], _∷_, _++_}
 use mathlib.Core.Bool.{cond}
 use lib.Dec.{eqb, ltb}
+use Rattle.rounding.specs.Sizes.{bias}
 use Rattle.decimal.specs.declared.Decimal.{Decimal}
 use Rattle.decimal.specs.Exponent.{raised}
 use Rattle.text.specs.Numbers.{digit, numberText}
@@ -15,7 +16,7 @@ digitsText m =
 
 -- E, a sign and the size of e + 8, where x is e counted from -3000: 2992 is e = -8, printed E+0
 unfoldable pub exponentText : ℕ → List ℕ
-exponentText x = 69 ∷ cond (ltb x 2992) (45 ∷ numberText (2992 - x)) (43 ∷ numberText (x - 2992))
+exponentText x = 69 ∷ cond (ltb x (bias - 8)) (45 ∷ numberText ((bias - 8) - x)) (43 ∷ numberText (x - (bias - 8)))
 
 unfoldable pub decimalText : Decimal → List ℕ
 decimalText d = digitsText (d .m) ++ exponentText (raised (d .e))

@@ -1,4 +1,5 @@
 // Writing blocks into the first 512 bytes of what is lent: header, contaminant, result, summary.
+use block_rules::BLOCK_SIZE;
 use block_rules::Header;
 use guideline_rules::SideGuidelines;
 use inputs::Contaminant;
@@ -8,13 +9,14 @@ use sum_rules::SideSums;
 ghost use mathlib.Core.Path.{_≡_};
 ghost use Prim.Native.Nat.{_≤_};
 ghost use lib.ListN.{length};
+ghost use Rattle.block_rules.specs.Rules.{blockSize};
 ghost use Rattle.words.specs.Bytes.{placed, le4, over};
 ghost use Rattle.block_rules.specs.Layouts.{lastWord, firstWords, headerBlock, contaminantBlock, resultBlock, summaryBlock};
 ghost use Rattle.block_rules.specs.Answers.{headerFit, contaminantFit, headerRefusal, headerAnswer, headerLeft, contaminantRefusal, contaminantAnswer, contaminantLeft};
 
 // Writes the last word, so that all 128 words add to zero.
 fn put_last_word(out: &mut [u8])
-    requires { ⌜ 512 ≤ length (now out) ⌝ }
+    requires { ⌜ blockSize ≤ length (now out) ⌝ }
     ensures { λ _. ⌜ now (out .exit) ≡ placed (now (out .entry)) 508 (le4 (lastWord (now (out .entry)))) ⌝ }
 {
     let sum = words::sum(out, 127);
@@ -34,7 +36,7 @@ fn put_first_words(out: &mut [u8], kind: u32, place: u32, a: u32, b: u32)
 
 // Writes a block of kind 1.
 fn put_header(out: &mut [u8], h: Header)
-    requires { ⌜ 512 ≤ length (now out) ⌝ }
+    requires { ⌜ blockSize ≤ length (now out) ⌝ }
     ensures { λ _. ⌜ now (out .exit) ≡ over (headerBlock h) (now (out .entry)) ⌝ }
 {
     let s = h.scenario;
@@ -48,7 +50,7 @@ fn put_header(out: &mut [u8], h: Header)
 
 // Writes a block of kind 2.
 fn put_contaminant(out: &mut [u8], place: u32, r: Contaminant)
-    requires { ⌜ 512 ≤ length (now out) ⌝ }
+    requires { ⌜ blockSize ≤ length (now out) ⌝ }
     ensures { λ _. ⌜ now (out .exit) ≡ over (contaminantBlock place r) (now (out .entry)) ⌝ }
 {
     put_first_words(out, 2, place, r.class, r.id);
@@ -67,7 +69,7 @@ pub fn put_result(
     risk: SideGuidelines,
     hazard: SideGuidelines,
 )
-    requires { ⌜ 512 ≤ length (now out) ⌝ }
+    requires { ⌜ blockSize ≤ length (now out) ⌝ }
     ensures { λ _. ⌜ now (out .exit) ≡ over (resultBlock place class id risk hazard) (now (out .entry)) ⌝ }
 {
     put_first_words(out, 3, place, class, id);
@@ -86,7 +88,7 @@ pub fn put_result(
 
 // Writes a block of kind 4: the sums of risk, those of hazard, and the two verdicts.
 pub fn put_summary(out: &mut [u8], risk: SideSums, hazard: SideSums)
-    requires { ⌜ 512 ≤ length (now out) ⌝ }
+    requires { ⌜ blockSize ≤ length (now out) ⌝ }
     ensures { λ _. ⌜ now (out .exit) ≡ over (summaryBlock risk hazard) (now (out .entry)) ⌝ }
 {
     let r = risk.verdict;
@@ -119,7 +121,7 @@ fn contaminant_fit(place: u32, r: Contaminant) -> bool
 fn header_refusal(room: usize, h: Header) -> Refusal
     ensures { λ n. ⌜ n ≡ headerRefusal room h ⌝ }
 {
-    if room < 512 {
+    if room < BLOCK_SIZE {
         return Refusal::Room;
     }
     if !header_fit(h) {
@@ -136,7 +138,7 @@ fn header_refusal(room: usize, h: Header) -> Refusal
 fn contaminant_refusal(room: usize, place: u32, r: Contaminant) -> Refusal
     ensures { λ n. ⌜ n ≡ contaminantRefusal room place r ⌝ }
 {
-    if room < 512 {
+    if room < BLOCK_SIZE {
         return Refusal::Room;
     }
     if !contaminant_fit(place, r) {

@@ -38,7 +38,7 @@ returns c =
     let header-read = record-read .before .before in
     let s = header-read .before .before .before .before .args in
     let e = own .guideline .ensures ∙ ap (λ (h : Header). guidelineOf (h .scenario) (h .medium) (record-read .contaminant-from .result)) (header-read .header-from .ensures)
-        ∙ ap (λ (r : Contaminant). guidelineOf (headerFrom (s .header .now) .scenario) (headerFrom (s .header .now) .medium) r) (record-read .contaminant-from .ensures) in
+    ∙ ap (λ (r : Contaminant). guidelineOf (headerFrom (s .header .now) .scenario) (headerFrom (s .header .now) .medium) r) (record-read .contaminant-from .ensures) in
     says-refused (s .header .now) (s .contaminant .now) (s .out .now) e (sym (accepted .accepted .ensures) ∙ not-true _ (refused .if1 .taken))
     (c .word-of .ensures ∙ ap (λ (n : ℕ). wordOf n (own .guideline .result .block) 0 0) (c .before .number .ensures))
 
@@ -58,7 +58,7 @@ returns-2 c =
     let header-read = record-read .before .before in
     let s = header-read .before .before .before .before .args in
     let e = own .guideline .ensures ∙ ap (λ (h : Header). guidelineOf (h .scenario) (h .medium) (record-read .contaminant-from .result)) (header-read .header-from .ensures)
-        ∙ ap (λ (r : Contaminant). guidelineOf (headerFrom (s .header .now) .scenario) (headerFrom (s .header .now) .medium) r) (record-read .contaminant-from .ensures) in
+    ∙ ap (λ (r : Contaminant). guidelineOf (headerFrom (s .header .now) .scenario) (headerFrom (s .header .now) .medium) r) (record-read .contaminant-from .ensures) in
     says-no-room (s .header .now) (s .contaminant .now) (s .out .now) e (sym (accepted .accepted .ensures) ∙ not-false _ (kept .if1 .left)) (short .if2 .taken)
     (c .word-of2 .ensures ∙ ap (λ (n : ℕ). wordOf n 0 0 0) (c .before .number2 .ensures))
 
@@ -85,7 +85,7 @@ returns-3 c =
     let header-read = record-read .before .before in
     let s = header-read .before .before .before .before .args in
     let e = own .guideline .ensures ∙ ap (λ (h : Header). guidelineOf (h .scenario) (h .medium) (record-read .contaminant-from .result)) (header-read .header-from .ensures)
-        ∙ ap (λ (r : Contaminant). guidelineOf (headerFrom (s .header .now) .scenario) (headerFrom (s .header .now) .medium) r) (record-read .contaminant-from .ensures) in
+    ∙ ap (λ (r : Contaminant). guidelineOf (headerFrom (s .header .now) .scenario) (headerFrom (s .header .now) .medium) r) (record-read .contaminant-from .ensures) in
     says-written (s .header .now) (s .contaminant .now) (s .out .now) e (sym (accepted .accepted .ensures) ∙ not-false _ (kept .if1 .left)) (roomy .if2 .left)
     (c .word-of3 .ensures ∙ ap (λ (n : ℕ). wordOf n (own .guideline .result .block) 0 0) (c .before .number3 .ensures))
     (put .put-guidelines .ensures)

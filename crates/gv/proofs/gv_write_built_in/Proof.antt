@@ -32,7 +32,7 @@ returns c =
     let e = found .built-in .ensures in
     let n = found .before .before .args .number in
     let f : eqb (numberOf (builtInOf n .refusal)) 0 ≡ _ =
-        ap (λ (b : BuiltIn). eqb (numberOf (b .refusal)) 0) (sym e) ∙ sym (accepted .accepted .ensures) ∙ not-true _ (c .before .if1 .taken) in
+    ap (λ (b : BuiltIn). eqb (numberOf (b .refusal)) 0) (sym e) ∙ sym (accepted .accepted .ensures) ∙ not-true _ (c .before .if1 .taken) in
     rw (f, f) (c .number .ensures ∙ ap (λ (b : BuiltIn). numberOf (b .refusal)) e, refl)
 
 write-header-requires : tie.Need-write-header-requires
@@ -56,7 +56,7 @@ returns-2 c =
     let w = written .write-header .ensures in
     let header : Scenario → Header = λ s. record { medium = a .medium; count = a .count; scenario = s } in
     let f : eqb (numberOf (builtInOf (a .number) .refusal)) 0 ≡ _ =
-        ap (λ (b : BuiltIn). eqb (numberOf (b .refusal)) 0) (sym e) ∙ sym (accepted .accepted .ensures) ∙ not-false _ (kept .if1 .left) in
+    ap (λ (b : BuiltIn). eqb (numberOf (b .refusal)) 0) (sym e) ∙ sym (accepted .accepted .ensures) ∙ not-false _ (kept .if1 .left) in
     rw f (
       c .number2 .ensures ∙ ap (λ (x : Answer). numberOf (x .refusal)) (w .0) ∙ ap (λ (b : BuiltIn). numberOf (headerRefusal (length (a .out .now)) (header (b .scenario)))) e,
       w .1 ∙ ap (λ (b : BuiltIn). headerLeft (a .out .now) (header (b .scenario))) e,

@@ -27,8 +27,7 @@ returns c =
     let read = written .before .before in
     let s = read .before .before .before .args in
     let e = read .contaminant-from .ensures in
-    let w = written .write-contaminant .ensures in
-    (
+    let w = written .write-contaminant .ensures in (
       c .number .ensures ∙ ap (λ (a : Answer). numberOf (a .refusal)) (w .0) ∙ ap (λ (x : Contaminant). numberOf (contaminantRefusal (length (s .out .now)) (s .place) x)) e,
       w .1 ∙ ap (contaminantLeft (s .out .now) (s .place)) e,
     )

@@ -27,8 +27,7 @@ returns c =
     let read = written .before .before in
     let s = read .before .before .before .args in
     let e = read .header-from .ensures in
-    let w = written .write-header .ensures in
-    (
+    let w = written .write-header .ensures in (
       c .number .ensures ∙ ap (λ (a : Answer). numberOf (a .refusal)) (w .0) ∙ ap (λ (x : Header). numberOf (headerRefusal (length (s .out .now)) x)) e,
       w .1 ∙ ap (headerLeft (s .out .now)) e,
     )

@@ -29,8 +29,7 @@ returns c =
     let entry = checked .before .before .before .before in
     let a = entry .args in
     let n = found-nonzero (checked .check-blocks .ensures) (sym (accepted .accepted .ensures) ∙ not-true _ (c .before .if1 .taken)) in
-    let e = answer-refused (entry .pre) (length (a .out .now)) n in
-    (
+    let e = answer-refused (entry .pre) (length (a .out .now)) n in (
       c .refused .ensures ∙ ap (λ (x : Answer). refused (x .refusal) (x .block)) (checked .check-blocks .ensures) ∙ sym e,
       sym (left-refused (a .site .now) (a .out .now) _ e n),
     )
