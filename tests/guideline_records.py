@@ -1,6 +1,4 @@
-"""The records that the program guideline_cases reads, the lines that it prints, and random records."""
-import struct
-
+"""Cases of the single guideline in the words of the paper, and random ones."""
 from second.decimals import ZERO, Decimal
 from second.guideline import guideline
 from second.terms import CONTAMINANT_VALUES, SCENARIO_FACTORS
@@ -31,25 +29,8 @@ class Case:
         return Case(medium, scenario, record)
 
 
-def packed(case):
-    """Medium, class, id, twelve scenario decimals, eight contaminant decimals, and a last word 0."""
-    words = [case.medium, case.record["class"], case.record["id"]]
-    decimals = [case.scenario[name] for name in SCENARIO_FACTORS] + [case.record[name] for name in CONTAMINANT_VALUES]
-    for d in decimals:
-        words += [d.m, d.e % 2**32]
-    return struct.pack("<44I", *words, 0)
-
-
 def answer_of(case):
     return guideline(case.scenario, case.medium, case.record)
-
-
-def line_of(answer):
-    """The refusal, the block, and m and e of the eight guidelines, separated by single spaces."""
-    numbers = [answer.refusal, answer.block]
-    for d in answer.guidelines:
-        numbers += [d.m, d.e]
-    return " ".join(map(str, numbers)) + "\n"
 
 
 def random_decimal(random):
@@ -93,7 +74,7 @@ def random_fault(random):
     return random.choice((
         Decimal(1_000_000_000, e),
         Decimal(2**32 - 1, e),
-        Decimal(random.randint(1, 999_999_999), random.choice((21, -21, 2**31 - 1, -(2**31), 999, -1000))),
+        Decimal(random.randint(1, 999_999_999), random.choice((21, -21, 2**15 - 1, -(2**15), 999, -1000))),
         Decimal(0, random.choice((1, -1, 20, -20))),
     ))
 

@@ -15,19 +15,6 @@ fn fill(out: &mut [u8]) {
     }
 }
 
-// The bytes of the output, each times its place.
-fn weigh(out: &[u8]) -> u32
-    requires { ⌜ length (now out) ≤ 65536 ⌝ }
-{
-    let mut t: u32 = 0;
-    let mut i: usize = 0;
-    while i < out.len() {
-        t = std::num::wrapping_add_u32(t, (i as u32 + 1) * (out[i] as u32));
-        i += 1;
-    }
-    t
-}
-
 // Prints a line: a word, a number, a line feed.
 fn print_answer(a: sum_rules::SumsAnswer) {
     io::write_all(STDOUT_FILENO, b"answer ");
@@ -39,7 +26,7 @@ fn print_output(out: &[u8])
     requires { ⌜ length (now out) ≤ 65536 ⌝ }
 {
     io::write_all(STDOUT_FILENO, b"output ");
-    io::print_decimal(STDOUT_FILENO, weigh(out) as u64);
+    io::print_decimal(STDOUT_FILENO, case_output::weigh(out) as u64);
     io::write_all(STDOUT_FILENO, b"\n");
 }
 

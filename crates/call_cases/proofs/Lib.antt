@@ -1,0 +1,2 @@
+-- The loan of the first elements of an array.
+pub mod Lending

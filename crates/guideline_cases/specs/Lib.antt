@@ -1,2 +1,0 @@
--- The definition that the program's contracts cite.
-pub mod Case
