@@ -18,7 +18,8 @@ enum {
     GV_BLOCK = 512,        /* bytes in a block */
     GV_MOST = 120,         /* contaminants in a site at the most */
     GV_SITE_MOST = 61952,  /* bytes in a site at the most: 121 blocks */
-    GV_TEXT_ROOM = 24576   /* room that gv_list asks for its text */
+    GV_TEXT_ROOM = 24576,  /* room that gv_list asks for its text */
+    GV_GUIDELINES = 64     /* bytes that gv_guideline writes: eight decimals */
 };
 
 /* What a call sends back: 0, or the number of a refusal. */
@@ -74,6 +75,13 @@ uint32_t gv_write_built_in(uint8_t *out, size_t out_len, uint32_t number, uint32
 /* Writes the block of the contaminant at a place, 1 to 120, or returns 10 or 4 and writes nothing.
    contaminant points to a struct gv_contaminant, contaminant_len is its size. */
 uint32_t gv_write_contaminant(uint8_t *out, size_t out_len, uint32_t place, const uint8_t *contaminant, size_t contaminant_len);
+
+/* The single guideline of one contaminant. header points to a struct gv_header, whose count is not looked at, contaminant to
+   a struct gv_contaminant. Accepted: eight decimals in the first 64 bytes of out, risk by pathway 1, 2, 3 and in total, then
+   hazard likewise, zero where absent; each is zero or has nine digits, and e is from -999 to 999. Refused: out as it was; 4 or
+   6 in block 0 for the header, 4 or 8 in block 1 for the contaminant, last 10. Returns the refusal number in bits 0 to 7 and
+   its block in 8 to 15. */
+uint64_t gv_guideline(const uint8_t *header, size_t header_len, const uint8_t *contaminant, size_t contaminant_len, uint8_t *out, size_t out_len);
 
 /* Evaluates a site. Accepted: a summary block and a result block for each contaminant in the first site_len bytes of out,
    later bytes as they were. Refused: out as it was. Returns the refusal number in bits 0 to 7, its block in 8 to 15, the

@@ -1,9 +1,10 @@
-"""Holds the static library to the second calculation on generated sites: answer, every output byte, listing.
+"""Holds the static library to the second calculation: on generated sites answer, every output byte and listing; on generated
+calls of the single guideline and of the writers the number and every output byte.
 
 Usage: python3 tests/compare_archive.py [N] [SEED] [--valgrind]
 
-Builds the library with rt and tests/archive/compare.c with cc, makes N sites from SEED with the second calculation's
-answers, and compares. With --valgrind the first 200 of them run under valgrind too.
+Builds the library with rt and the programs of tests/archive with cc, makes N sites and N calls from SEED with the second
+calculation's answers, and compares. With --valgrind 200 of each run under valgrind too.
 """
 import subprocess
 import sys
@@ -11,6 +12,8 @@ from pathlib import Path
 
 ROOT = Path(__file__).resolve().parent.parent
 BUILD = ROOT / "target" / "compare"
+# Each program that compares, and what makes its cases.
+FRAMES = {"compare": "tests/site_frames.py", "calls": "tests/archive_frames.py"}
 
 
 def run(*words):
@@ -20,13 +23,15 @@ def run(*words):
 def build():
     BUILD.mkdir(parents=True, exist_ok=True)
     subprocess.run(["rt", "staticlib", "gv"], cwd=ROOT, check=True, stdout=subprocess.DEVNULL, stderr=subprocess.DEVNULL)
-    run("cc", "-O2", "-g", "-Wall", "-Wextra", "-Iinclude", "-o", BUILD / "compare", "tests/archive/compare.c", "target/staticlib/libgv.a")
+    for program in FRAMES:
+        run("cc", "-O2", "-g", "-Wall", "-Wextra", "-Iinclude", "-o", BUILD / program, f"tests/archive/{program}.c", "target/staticlib/libgv.a")
 
 
 def compare(count, seed, *before):
-    cases, expected = BUILD / f"cases-{count}-{seed}", BUILD / f"expected-{count}-{seed}"
-    run(sys.executable, "tests/site_frames.py", count, seed, cases, expected)
-    run(*before, BUILD / "compare", cases, expected)
+    for program, maker in FRAMES.items():
+        cases, expected = BUILD / f"{program}-cases-{count}-{seed}", BUILD / f"{program}-expected-{count}-{seed}"
+        run(sys.executable, maker, count, seed, cases, expected)
+        run(*before, BUILD / program, cases, expected)
 
 
 def main():

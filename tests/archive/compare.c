@@ -2,43 +2,7 @@
    A case is the site's length, the output's length (4 bytes each) and the site; its answer is the number that gv_site
    returns (8 bytes), the output afterwards, the length of the listing (4 bytes) and the listing. Every buffer has exactly
    its length, so that valgrind sees a byte read or written past it; the output is filled before, with guard bytes behind it. */
-#include "gv.h"
-#include <stdio.h>
-#include <stdlib.h>
-#include <string.h>
-
-enum { FILL = 0xa5, GUARD = 0x5a, GUARDS = 64 };
-
-static void need(void *to, size_t n, FILE *f)
-{
-    if (fread(to, 1, n, f) != n) {
-        fprintf(stderr, "compare: a file ends too early\n");
-        exit(2);
-    }
-}
-
-static uint32_t word(FILE *f)
-{
-    uint8_t b[4];
-    need(b, 4, f);
-    return b[0] | (uint32_t)b[1] << 8 | (uint32_t)b[2] << 16 | (uint32_t)b[3] << 24;
-}
-
-static uint8_t *filled(size_t n)
-{
-    uint8_t *p = malloc(n + GUARDS);
-    memset(p, FILL, n);
-    memset(p + n, GUARD, GUARDS);
-    return p;
-}
-
-static int guarded(const uint8_t *p, size_t n)
-{
-    for (size_t i = 0; i < GUARDS; i++)
-        if (p[n + i] != GUARD)
-            return 0;
-    return 1;
-}
+#include "compare.h"
 
 /* The first thing that differs, or null. */
 static const char *differs(const uint8_t *site, uint32_t site_len, uint32_t out_len, uint64_t answer, const uint8_t *left,
@@ -77,7 +41,7 @@ int main(int argc, char **argv)
         uint32_t site_len = word(cases), out_len = word(cases);
         uint8_t *site = malloc(site_len), *left = malloc(out_len);
         need(site, site_len, cases);
-        uint64_t low = word(expected), answer = low | (uint64_t)word(expected) << 32;
+        uint64_t answer = number(expected);
         need(left, out_len, expected);
         uint32_t text_len = word(expected);
         uint8_t *text = malloc(text_len);
