@@ -6,3 +6,4 @@ pub mod ReadBack
 pub mod ContaminantBack
 pub mod HeaderBack
 pub mod ResultsBack
+pub mod Answers
