@@ -1,9 +1,9 @@
-"""Races the proved site call against unproved programs on the same sites, interleaved in one run.
+"""Times the proved site call beside unproved programs on the same sites, interleaved in one run.
 
 Usage: python3 bench/run.py [ROUNDS]        needs gcc, libgmp-dev, a JDK and valgrind; `rt` builds the proved library
 
 For each group of sites (1, 12 and 120 contaminants, and 120 of which the last block is damaged) it prints the median
-ratio of each contestant's time to that of baseline.c in the neighbouring batch, and for the C contestants the
+ratio of each program's time to that of baseline.c in the neighbouring batch, and for the C programs the
 instructions and the modelled branch misses of one call by callgrind.
 """
 import pathlib
@@ -18,7 +18,7 @@ BASELINE = "baseline"
 NATIVE = (BASELINE, "proved", "exact_gmp")
 # About 1.5 ms of baseline.c to a batch.
 CALLS = {"mix1": 1600, "mix12": 240, "mix120": 16, "badlast120": 24}
-# Slower contestants make fewer calls to a batch.
+# Slower programs make fewer calls to a batch.
 SLOWER = {"exact_gmp": 8, "java_site": 2, "python_site": 16}
 ALLOCATED = 8  # sites to a group
 
@@ -53,15 +53,15 @@ def calls_of(name, group):
     return max(ALLOCATED, CALLS[group] // SLOWER.get(name, 1))
 
 
-def ratios(contestants, group, rounds):
-    """For each contestant the median ratio to the baseline beside it; and the baseline's time."""
-    found, base = {name: [] for name in contestants if name != BASELINE}, []
+def ratios(programs, group, rounds):
+    """For each program the median ratio to the baseline beside it; and the baseline's time."""
+    found, base = {name: [] for name in programs if name != BASELINE}, []
     for turn in range(rounds):
         for name in found:
             if SLOWER.get(name, 1) > 1 and turn % 5:
                 continue
-            beside = contestants[BASELINE].time(BASELINE, group, CALLS[group])
-            found[name].append(contestants[name].time(name, group, calls_of(name, group)) / beside)
+            beside = programs[BASELINE].time(BASELINE, group, CALLS[group])
+            found[name].append(programs[name].time(name, group, calls_of(name, group)) / beside)
             base.append(beside)
     return {name: statistics.median(values) for name, values in found.items()}, statistics.median(base)
 
@@ -69,7 +69,7 @@ def ratios(contestants, group, rounds):
 def counted(name, group):
     """Instructions and modelled branch misses of one call, by callgrind: those inside the harness's calls."""
     output = HERE / "build" / "callgrind.out"
-    words = ["valgrind", "--tool=callgrind", "--branch-sim=yes", f"--toggle-collect=contestant_{name}", f"--callgrind-out-file={output}",
+    words = ["valgrind", "--tool=callgrind", "--branch-sim=yes", f"--toggle-collect=program_{name}", f"--callgrind-out-file={output}",
              "build/harness", "count", name, "sites", group]
     said = subprocess.run(words, cwd=HERE, capture_output=True, text=True).stderr
     numbers = [int(re.search(line + r"\s+([\d,]+)", said).group(1).replace(",", "")) for line in ("I +refs:", "Mispredicts:")]
@@ -79,13 +79,13 @@ def counted(name, group):
 def main():
     rounds = int(sys.argv[1]) if len(sys.argv) > 1 else 101
     build()
-    contestants = servers()
-    print("| sites | baseline.c | " + " | ".join(name for name in contestants if name != BASELINE) + " |")
-    print("|---|--:|" + "--:|" * (len(contestants) - 1))
+    programs = servers()
+    print("| sites | baseline.c | " + " | ".join(name for name in programs if name != BASELINE) + " |")
+    print("|---|--:|" + "--:|" * (len(programs) - 1))
     for group in GROUPS:
-        found, base = ratios(contestants, group, rounds)
+        found, base = ratios(programs, group, rounds)
         print(f"| {group} | 1.00 ({base / 1000:.1f} µs) | " + " | ".join(f"{value:.2f}" for value in found.values()) + " |", flush=True)
-    print("\n| sites | contestant | instructions a call | branch misses a call |\n|---|---|--:|--:|")
+    print("\n| sites | program | instructions a call | branch misses a call |\n|---|---|--:|--:|")
     for group in GROUPS:
         for name in NATIVE[:2]:
             instructions, misses = counted(name, group)

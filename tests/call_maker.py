@@ -123,7 +123,7 @@ def stored_writers():
 
 
 def marked_decimals():
-    """The figures that paper 01 marks."""
+    """The figures that the specification marks."""
     one, two, three, seven = (Decimal(n * 10**8, -8) for n in (1, 2, 3, 7))
     nines, tiny = Decimal(999_999_999, 0), Decimal(10**8, -28)
     for choice, (a, b) in itertools.product(range(len(OPERATIONS)), ((one, three), (two, three), (nines, nines), (nines, one),

@@ -1,4 +1,4 @@
-"""Checks the second calculation itself: the figures that paper 01 marks, and demand 3 on random lists.
+"""Checks the second calculation itself: the figures that the specification marks, and demand 3 on random lists.
 
     python3 tests/check_second.py 300 1        300 lists from seed 1
 
@@ -37,7 +37,7 @@ def office_figures():
 
 
 def marked_figures():
-    """(name, computed, printed in paper 01)"""
+    """(name, computed, printed in the specification)"""
     one, two, three, seven = (working_form(Decimal(n, 0)) for n in (1, 2, 3, 7))
     nines, tiny = Decimal(999_999_999, 0), working_form(Decimal(1, -20))
     yield "1 / 3 down", divide(one, three, DOWN), (333333333, -9)

@@ -1,4 +1,4 @@
-"""Checks the second calculation of whole sites, of the writers and of the listing, on the paper's example and on test sites.
+"""Checks the second calculation of whole sites, of the writers and of the listing, on the specification's example and on test sites.
 
     python3 tests/check_sites.py 300 1        300 test sites from seed 1
 
@@ -31,7 +31,7 @@ RESULT_FORM = "<4I" + "IhH" * 8 + "428sI"
 SUMMARY_FORM = "<4I" + "IhH" * 4 + "2I452sI"
 # The refusals that the header and the later blocks can have. Block 0 also goes with 1 and 10.
 IN_HEADER, IN_LATER = (1, 2, 3, 4, 5, 6, 10), (2, 3, 4, 7, 8, 9)
-# Paper 01's decimals never leave the range: refusal 9 is not expected.
+# The specification's decimals never leave the range: refusal 9 is not expected.
 EXPECTED_REFUSALS = [number for number in range(ROOM + 1) if number != RANGE]
 VERDICTS = (1, 2, 3, 4)
 FIGURE = r"\d\.\d{8}E(?:\+0|[+-][1-9]\d*)"
@@ -170,7 +170,7 @@ def writers_wrong():
 
 
 def example_wrong():
-    """The text that paper 01 prints for its example, and the lengths that it names."""
+    """The text that the specification prints for its example, and the lengths that it names."""
     example = example_site()
     if listing(example) != EXAMPLE_TEXT:
         yield f"the example prints\n{listing(example)}"

@@ -110,7 +110,7 @@ def refused_fields():
 
 
 def two_faults():
-    """Two conditions at once: the first in the paper's order is the one sent back."""
+    """Two conditions at once: the first in the specification's order is the one sent back."""
     field, absent = Decimal(1, 21), {name: ZERO for name in CONTAMINANT_VALUES}
     for medium, klass in DEPENDS_ON:
         case = full_case(medium, klass)

@@ -1,4 +1,4 @@
-"""Cases of the single guideline in the words of the paper, and random ones."""
+"""Cases of the single guideline in the words of the specification, and random ones."""
 from second.decimals import ZERO, Decimal
 from second.guideline import guideline
 from second.terms import CONTAMINANT_VALUES, SCENARIO_FACTORS
@@ -12,7 +12,7 @@ MULTIPLIED_FIRST = (("SFo", "IR"), ("SFi", "IRA"), ("SFx", "ET"), ("SFo", "SA"),
 
 
 class Case:
-    """A scenario, a medium and a contaminant record, each in the words of the paper."""
+    """A scenario, a medium and a contaminant record, each in the words of the specification."""
 
     def __init__(self, medium, scenario, record):
         self.medium = medium

@@ -1,4 +1,4 @@
-"""Writes what the programs gvlist and site_cases read and must print: the example of paper 01, and stored cases of sites.
+"""Writes what the programs gvlist and site_cases read and must print: the example of the specification, and stored cases of sites.
 
     python3 tests/make_site_cases.py            writes stdin and stdout of crates/gvlist and of crates/site_cases
     python3 tests/make_site_cases.py --check    status 1 when the stored files are not what it would write
@@ -66,8 +66,8 @@ def fault_sites():
 
 
 def chosen():
-    """The example of the paper, then sites of each family."""
-    yield "example: paper 01; accepted", example_site(), len(example_site())
+    """The example of the specification, then sites of each family."""
+    yield "example: the specification; accepted", example_site(), len(example_site())
     for family, _ in FAMILIES:
         yield from fault_sites() if family is one_fault else first_sites(family)
 

@@ -1,4 +1,4 @@
-"""The example of paper 01: its site, made by the writers of the second calculation, and the text printed for it."""
+"""The example of the specification: its site, made by the writers of the second calculation, and the text printed for it."""
 from guideline_records import Case
 from second.blocks import BLOCK, write_contaminant, write_header
 from second.decimals import Decimal

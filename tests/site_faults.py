@@ -1,4 +1,4 @@
-"""Faults of one block of a site, each with the number of the refusal that paper 01 gives it."""
+"""Faults of one block of a site, each with the number of the refusal that the specification gives it."""
 import struct
 from typing import Callable, NamedTuple
 

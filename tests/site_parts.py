@@ -13,7 +13,7 @@ CLASSES = {CHEMICAL: "chemical", RADIONUCLIDE: "radionuclide"}
 KINDS = list(itertools.product(MEDIA, CLASSES))
 ONE = Decimal(1, 0)
 
-# The built-in scenarios of paper 01, and one in which every factor is known.
+# The built-in scenarios of the specification, and one in which every factor is known.
 PERSON = {"BW": Decimal(70, 0), "AT": Decimal(70, 0), "TR": Decimal(1, -6), "THI": ONE}
 SCENARIOS = (
     {"EF": Decimal(250, 0), "ED": Decimal(25, 0), "IR": Decimal(50, 0), "IRA": Decimal(20, 0), "PEF": Decimal(428, 7)},
@@ -36,7 +36,7 @@ PLAUSIBLE = {
 
 
 class Site:
-    """A scenario, a medium and records in the words of the paper, before they are bytes."""
+    """A scenario, a medium and records in the words of the specification, before they are bytes."""
 
     def __init__(self, medium, scenario, records):
         self.medium = medium

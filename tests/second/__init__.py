@@ -1,1 +1,1 @@
-"""A second calculation of the guideline routine in exact fractions, written from paper 01 alone."""
+"""A second calculation of the guideline routine in exact fractions, written from the specification alone."""

@@ -1,4 +1,4 @@
-"""Blocks of 512 bytes: read, made and checked, and the writers of kinds 1 and 2 (paper 01, "Blocks")."""
+"""Blocks of 512 bytes: read, made and checked, and the writers of kinds 1 and 2 (docs/FORMAT.md)."""
 import struct
 
 from .decimals import Decimal

@@ -1,4 +1,4 @@
-"""Decimals (m, e) worth m * 10^e, and their operations rounded down or up (paper 01, "Decimals and their rounding")."""
+"""Decimals (m, e) worth m * 10^e, and their operations rounded down or up (docs/SPECIFICATION.md, "Decimals")."""
 from fractions import Fraction
 from math import ceil, floor
 from typing import NamedTuple
@@ -66,7 +66,7 @@ def working_form(d):
 
 
 def are_operands(a, b):
-    """Paper 01: an operand is a working decimal with e from -999 to 999; anything else gives (0, 0)."""
+    """The specification: an operand is a working decimal with e from -999 to 999; anything else gives (0, 0)."""
     return is_working(a) and is_working(b) and in_range(a) and in_range(b)
 
 

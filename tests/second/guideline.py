@@ -1,10 +1,10 @@
-"""The single guideline: one scenario, one medium, one contaminant record (paper 01, "Guidelines, sums, verdicts")."""
+"""The single guideline: one scenario, one medium, one contaminant record (docs/SPECIFICATION.md, "Guidelines, sums, verdicts")."""
 from typing import NamedTuple
 
 from .decimals import DOWN, UP, ZERO, divide, in_range, keeps_input_rule, working_form
 from .terms import CONTAMINANT_VALUES, HAZARD, RISK, SCENARIO_FACTORS, SIDES, has_pathway, inputs_of, term_sum, terms_of
 
-# Refusals, by the paper's numbers.
+# Refusals, by the specification's numbers.
 ACCEPTED, LENGTH, CHECK, KIND, FIELD, COUNT, FACTOR, ORDER, PATHWAY, RANGE, ROOM = range(11)
 REQUIRED_FACTORS = ("EF", "ED", "BW", "AT", "TR", "THI")
 TARGET = {RISK: "TR", HAZARD: "THI"}

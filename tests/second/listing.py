@@ -1,4 +1,4 @@
-"""The text that the program gvlist prints for a site (paper 01, "Checked figures")."""
+"""The text that the program gvlist prints for a site (docs/SPECIFICATION.md, "Listing")."""
 from .blocks import BLOCK, field_of, word
 from .decimals import ZERO
 from .guideline import ACCEPTED

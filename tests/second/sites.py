@@ -1,4 +1,4 @@
-"""The call over a whole site: refusals in the paper's order, sums, verdicts and the result blocks (paper 01, "Blocks",
+"""The call over a whole site: refusals in the specification's order, sums, verdicts and the result blocks (docs/FORMAT.md,
 "What is sent back")."""
 from typing import NamedTuple
 

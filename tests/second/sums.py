@@ -1,4 +1,4 @@
-"""The list call: sums of risk and hazard over a list, and verdicts (paper 01, "Guidelines, sums, verdicts")."""
+"""The list call: sums of risk and hazard over a list, and verdicts (docs/SPECIFICATION.md, "Guidelines, sums, verdicts")."""
 from typing import NamedTuple
 
 from .decimals import DOWN, UP, ZERO, add, in_range, multiply, value, working_form

@@ -1,4 +1,4 @@
-"""The terms of each pathway, rounded and exact (paper 01, "Terms")."""
+"""The terms of each pathway, rounded and exact (docs/SPECIFICATION.md, "Terms")."""
 from fractions import Fraction
 
 from .decimals import OPPOSITE, ZERO, Decimal, add, divide, multiply, value, working_form
@@ -19,7 +19,7 @@ CONSTANTS = {
     "365": Decimal(365, 0),
 }
 
-# The formulas as the paper prints them, by medium, class and side, in the order of the pathways; None: no such pathway.
+# The formulas as the specification prints them, by medium, class and side, in the order of the pathways; None: no such pathway.
 TABLE = {
     (SOIL, CHEMICAL, RISK): (
         "SFo, IR, 10^-6, EF, ED / BW, AT, 365",

@@ -125,7 +125,7 @@ contaminant-refused b place previous y e z = omega (arith, contaminant-sent b pl
 pub header-refused : (b : List ℕ) (blocks : ℕ) (y : Refusal) → headerRead b blocks ≡ H.Refused y → numberOf y ≡ 0 → ⊥
 header-refused b blocks y e z = omega (arith, header-sent b blocks y e .least)
 
--- ---- the facts by the paper's number: a block with number 0 has passed every test, and its value is what it holds
+-- ---- the facts by the number: a block with number 0 has passed every test, and its value is what it holds
 pub contaminant-accepted : (b : List ℕ) (place previous : ℕ) → contaminantNumber (contaminantRead b place previous) ≡ 0 →
     ContaminantFacts b previous (contaminantValue (contaminantRead b place previous))
 contaminant-accepted b place previous = cases (contaminantRead b place previous) refl

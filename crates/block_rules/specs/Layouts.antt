@@ -1,4 +1,4 @@
--- The four kinds of block as 512 bytes (paper 01, "Blocks").
+-- The four kinds of block as 512 bytes (docs/FORMAT.md).
 use Prim.Native.Nat.{ℕ, _-_, _%_}
 use mathlib.Core.List.{List, [], _∷_, _++_}
 use lib.ListN.{replicate}

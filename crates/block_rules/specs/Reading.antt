@@ -1,4 +1,4 @@
--- What a header block and a contaminant block hold, and what is sent back of one that breaks a rule, in the order of paper 01.
+-- What a header block and a contaminant block hold, and what is sent back of one that breaks a rule, in the order of the specification.
 use Prim.Native.Nat.{ℕ, _+_, _%_}
 use mathlib.Core.List.{List}
 use mathlib.Core.Bool.{Bool, _&&_, not, cond}
@@ -88,7 +88,7 @@ contaminantRead b place previous =
     (cond (leb (wordAt b 12) previous) (C.Refused Order)
     (C.Found (contaminantAt b 8))))))
 
--- ---- the number of the paper and the value of each case: number 0 with what the block holds, or a refusal's number with zeros
+-- ---- the number and the value of each case: number 0 with what the block holds, or a refusal's number with zeros
 abbrev pub headerNumber : HeaderRead → ℕ
 headerNumber (H.Found h) = 0
 headerNumber (H.Refused n) = numberOf n

@@ -1,4 +1,4 @@
--- The rule of paper 01 ("What is sent back") for the count of a site. The other rules of a header or a contaminant are those of
+-- The rule (docs/SPECIFICATION.md, "What is sent back") for the count of a site. The other rules of a header or a contaminant are those of
 -- crate `inputs`.
 use Prim.Native.Nat.{ℕ, _+_}
 use mathlib.Core.Bool.{Bool, _&&_}

@@ -1,4 +1,4 @@
--- Decimals as paper 01 has them: the pair (m, e) is worth m * 10^e. What an operand is, and the operations.
+-- Decimals (docs/SPECIFICATION.md, "Decimals"): the pair (m, e) is worth m * 10^e. What an operand is, and the operations.
 use mathlib.Core.Bool.{Bool, true, false, cond, not, _&&_}
 use Prim.Native.Nat.{ℕ, _≤_, _<_, _-_}
 use lib.IntN.{pos, subℕ}

@@ -1,4 +1,4 @@
--- The marked figures of paper 01 that are about decimals, as a table.
+-- The marked figures of the specification that are about decimals, as a table.
 use mathlib.Core.List.{List, [], _∷_}
 use Prim.Native.Nat.{ℕ}
 use lib.IntN.{ℤ, pos, negsuc}

@@ -1,4 +1,4 @@
--- Fractions of whole numbers: the exact values of paper 01. No step is rounded.
+-- Fractions of whole numbers: the exact values of the specification. No step is rounded.
 use Prim.Native.Nat.{ℕ, _+_, _*_, _≤_}
 use Rattle.rounding.specs.Number.{one}
 use Rattle.decimal.specs.declared.Decimal.{Decimal}

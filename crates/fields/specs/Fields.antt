@@ -1,4 +1,4 @@
--- Decimal fields as paper 01 has them ("Blocks"): m (4 bytes), e (2, two's complement), two zero bytes.
+-- Decimal fields (docs/FORMAT.md): m (4 bytes), e (2, two's complement), two zero bytes.
 use Prim.Native.Nat.{ℕ, zero, suc, _+_, _*_, _-_, _<_, _%_, _/_}
 use mathlib.Core.Path.{_≡_}
 use mathlib.Core.List.{List, [], _∷_, _++_}

@@ -1,4 +1,4 @@
--- The formulas of paper 01 ("Terms") as a table: a formula is the list of the factors before the stroke and of those after it.
+-- The formulas (docs/SPECIFICATION.md, "Terms") as a table: a formula is the list of the factors before the stroke and of those after it.
 use mathlib.Core.List.{List, [], _∷_}
 use Prim.Native.Nat.{ℕ, _+_, _-_, _*_}
 use lib.ListN.{getD}

@@ -1,4 +1,4 @@
--- What a formula comes to over working decimals, rounded in a direction (paper 01, "Guidelines, sums, verdicts").
+-- What a formula comes to over working decimals, rounded in a direction (docs/SPECIFICATION.md, "Guidelines, sums, verdicts").
 use mathlib.Core.Bool.{Bool, true, false, cond, not, _&&_}
 use mathlib.Core.List.{List, [], _∷_, _++_, map}
 use Prim.Native.Nat.{ℕ}

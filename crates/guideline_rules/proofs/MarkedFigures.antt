@@ -1,4 +1,4 @@
--- Every marked figure of paper 01: the definitions give what the table prints. Assumes nothing.
+-- Every marked figure of the specification: the definitions give what the table prints. Assumes nothing.
 use mathlib.Core.Path.{_≡_, refl}
 use mathlib.Core.List.{map}
 use Rattle.rounding.specs.Round.{cutOf, roundOf}

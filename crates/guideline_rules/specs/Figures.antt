@@ -1,4 +1,4 @@
--- The marked figures of paper 01 ("Checked figures") as one table: those about decimals, and those of the office worker in soil.
+-- The marked figures (docs/SPECIFICATION.md, "Checked figures") as one table: those about decimals, and those of the office worker in soil.
 use mathlib.Core.List.{List, [], _∷_, _++_}
 use lib.ListN.{getD}
 use lib.IntN.{pos, negsuc}

@@ -1,4 +1,4 @@
--- The single guideline of paper 01: its eight decimals, or what is sent back.
+-- The single guideline of the specification: its eight decimals, or what is sent back.
 use mathlib.Core.Bool.{Bool, true, false, cond, _&&_, _||_}
 use mathlib.Core.List.{List, [], _∷_}
 use Prim.Native.Nat.{ℕ}

@@ -1,5 +1,5 @@
--- The three built-in scenarios of paper 01 ("Blocks"), with their pairs (m, e) fixed: a whole number below 1,000 has e = 0,
--- any other value the digits that the paper prints.
+-- The three built-in scenarios (docs/SPECIFICATION.md, "Built-in scenarios"), with their pairs (m, e) fixed: a whole number below 1,000 has e = 0,
+-- any other value the digits that are printed there.
 use mathlib.Core.Bool.{cond}
 use Prim.Native.Nat.{ℕ}
 use lib.Dec.{eqb}

@@ -1,4 +1,4 @@
--- The decimals of a scenario and of a contaminant, in the order of their names in paper 01.
+-- The decimals of a scenario and of a contaminant, in the order of the record.
 use mathlib.Core.List.{List, [], _∷_}
 use Rattle.decimal.specs.declared.Decimal.{Decimal}
 use Rattle.inputs.specs.declared.Scenario.{Scenario}

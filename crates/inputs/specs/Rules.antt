@@ -1,4 +1,4 @@
--- The rules of paper 01 that a scenario and a contaminant have to keep, wherever they come from.
+-- The rules of the specification that a scenario and a contaminant have to keep, wherever they come from.
 use mathlib.Core.Path.{_≡_}
 use mathlib.Core.Logic.{_⊎_}
 use mathlib.Core.Bool.{Bool, true, false, not, _&&_, _||_}

@@ -1,4 +1,4 @@
--- The lines of the listing as bytes (paper 01, "Checked figures"): one space parts the fields, a line feed ends each line.
+-- The lines of the listing as bytes (docs/SPECIFICATION.md, "Listing"): one space parts the fields, a line feed ends each line.
 use Prim.Native.Nat.{ℕ, zero, suc}
 use mathlib.Core.List.{List, [], _∷_, _++_}
 use mathlib.Core.Bool.{cond}

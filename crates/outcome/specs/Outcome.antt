@@ -1,4 +1,4 @@
--- The number that paper 01 gives each refusal ("What is sent back"); an accepted call has 0.
+-- The number of each refusal (docs/SPECIFICATION.md, "What is sent back"); an accepted call has 0.
 use Prim.Native.Nat.{ℕ}
 use Rattle.outcome.specs.declared.Refusal.{Refusal}
 use Rattle.outcome.specs.declared.Answer.{Answer}

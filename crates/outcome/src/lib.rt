@@ -3,7 +3,7 @@ ghost use mathlib.Core.Path.{_≡_};
 ghost use lib.Dec.{eqb};
 ghost use Rattle.outcome.specs.Outcome.{numberOf};
 
-// The word of each refusal, in the order of paper 01's numbers.
+// The word of each refusal, in the order of their numbers.
 pub enum Refusal {
     Accepted,
     Length,

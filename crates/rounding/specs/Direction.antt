@@ -1,4 +1,4 @@
--- The two directions of rounding: "down" and "up" in paper 01.
+-- The two directions of rounding: "down" and "up".
 use Prim.Native.Nat.{ℕ, _≤_}
 use Rattle.rounding.specs.declared.Direction.{Direction}
 use Rattle.rounding.specs.declared.Direction.the-variants.{Down, Up}

@@ -20,7 +20,7 @@ pub record Nine (r : Number) : Type 0 where
   pub least : nineDigits ≤ r .m
   pub most : r .m < tenDigits
 
--- "working decimal" of paper 01: zero, or nine digits
+-- a working decimal: zero, or nine digits
 abbrev pub Working : Number → Type 0
 Working r = (r .m ≡ 0) ⊎ Nine r
 

@@ -174,7 +174,7 @@ count-is n blocks l u false e = and-false (inFile n)
     and-false true = refl
     and-false false = refl
 
--- in a site that passed 1, condition 5 is the paper's: the count is not blocks less one
+-- in a site that passed 1, condition 5 is the specification's: the count is not blocks less one
 pub count-plain : (site : List ℕ) → lengthOk (length site) ≡ true → countCondition site .holds ≡ not (eqb (headerOf site .count + 1) (length site / 512))
 unfolding countOk
 count-plain site r =

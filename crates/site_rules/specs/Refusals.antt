@@ -1,4 +1,4 @@
--- The refusals of the site call as one table (paper 01, "What is sent back"): each condition by its number, word and plain test, and all of
+-- The refusals of the site call as one table (docs/SPECIFICATION.md, "What is sent back"): each condition by its number, word and plain test, and all of
 -- them in the order in which they are tried. The first that holds is sent back, with the block that was tested.
 use mathlib.Core.Path.{_≡_}
 use mathlib.Core.Bool.{Bool, true, false, cond, not, _&&_, _||_}

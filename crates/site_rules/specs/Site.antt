@@ -1,4 +1,4 @@
--- The site call of paper 01: what is sent back of the bytes of a site and an output of so many bytes.
+-- The site call of the specification: what is sent back of the bytes of a site and an output of so many bytes.
 use Prim.Native.Nat.{ℕ, zero, suc, _+_, _*_, _/_, _%_}
 use mathlib.Core.List.{List}
 use mathlib.Core.Bool.{Bool, _&&_, _||_, cond}

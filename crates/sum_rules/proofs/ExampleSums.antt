@@ -1,4 +1,4 @@
--- The example of paper 01: the definitions give the sums and verdicts that it prints. Assumes nothing.
+-- The example of the specification: the definitions give the sums and verdicts that it prints. Assumes nothing.
 use mathlib.Core.Path.{_≡_, refl}
 use Rattle.rounding.specs.Round.{cutOf, roundOf}
 use Rattle.rounding.specs.Operations.{productOf, quotientOf, alignedOf, sumOf}

@@ -1,4 +1,4 @@
--- The example of paper 01 ("Checked figures"): the office worker in soil, one chemical, id 1, SFo 1, RfDo 0.02, C 2; the sums as printed there.
+-- The example (docs/SPECIFICATION.md, "Checked figures"): the office worker in soil, one chemical, id 1, SFo 1, RfDo 0.02, C 2; the sums as printed there.
 use mathlib.Core.List.{List, [], _∷_}
 use lib.IntN.{pos, negsuc}
 use Rattle.decimal.specs.Decimal.{zeroOf}

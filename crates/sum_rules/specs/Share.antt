@@ -1,4 +1,4 @@
--- A contaminant's share of a side's sums, and one step of the running sums (paper 01, "Guidelines, sums, verdicts").
+-- A contaminant's share of a side's sums, and one step of the running sums (docs/SPECIFICATION.md, "Guidelines, sums, verdicts").
 use mathlib.Core.Bool.{Bool, false, _||_}
 use mathlib.Core.List.{List, [], _∷_}
 use Prim.Native.Nat.{ℕ}

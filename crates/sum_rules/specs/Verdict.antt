@@ -1,4 +1,4 @@
--- The verdict of a side, tried in the paper's order: 4 none, 1 within, 2 above, 3 undecided; and its number.
+-- The verdict of a side, tried in the specification's order: 4 none, 1 within, 2 above, 3 undecided; and its number.
 use mathlib.Core.Bool.{Bool, cond, not}
 use Prim.Native.Nat.{ℕ}
 use Rattle.decimal.specs.declared.Decimal.{Decimal}

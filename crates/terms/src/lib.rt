@@ -1,4 +1,4 @@
-// The terms of paper 01: the risk or hazard that one unit of concentration brings by each pathway.
+// The terms of the specification: the risk or hazard that one unit of concentration brings by each pathway.
 pub mod numbers;
 pub mod pathways;
 pub mod prepared;

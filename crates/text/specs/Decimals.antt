@@ -1,4 +1,4 @@
--- Decimals as text (paper 01, "Checked figures"): the first digit of m, a point, the other eight digits, E, a sign and the size of e + 8.
+-- Decimals as text (docs/SPECIFICATION.md, "Listing"): the first digit of m, a point, the other eight digits, E, a sign and the size of e + 8.
 use Prim.Native.Nat.{ℕ, zero, suc, _+_, _-_, _/_, _%_}
 use mathlib.Core.List.{List, [], _∷_, _++_}
 use mathlib.Core.Bool.{cond}
