@@ -124,7 +124,7 @@ fn zero_side() -> SideGuidelines
 }
 
 // A refusal with its block and zero decimals.
-fn refused(refusal: Refusal, block: u32) -> GuidelineAnswer
+pub fn refused(refusal: Refusal, block: u32) -> GuidelineAnswer
     ensures { λ g. ⌜ g ≡ refusedOf refusal block ⌝ }
 {
     GuidelineAnswer {

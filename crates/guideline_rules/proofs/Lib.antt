@@ -2,3 +2,4 @@ pub mod Accepted
 pub mod WorkedOut
 pub mod Promises
 pub mod MarkedFigures
+pub mod Refused

@@ -7,6 +7,8 @@ use lib.Dec.{eqb, ltb}
 use lib.ListN.{length}
 use borrow.Author.Tests.{lt-ltb, le-ltb}
 use Rattle.outcome.specs.Outcome.{numberOf}
+use Rattle.inputs.specs.declared.Contaminant.{Contaminant}
+use Rattle.block_rules.specs.declared.Header.{Header}
 use Rattle.words.specs.Bytes.{over}
 use Rattle.fields.specs.Fields.{fieldBytes}
 use Rattle.block_rules.specs.Layouts.{guidelineDecimals}
@@ -18,6 +20,11 @@ use Rattle.gv_rules.specs.Exports.{wordOf, headerFrom, contaminantFrom, guideli
 -- what is said and left under an answer
 abbrev pub Says : ℕ → List ℕ → GuidelineAnswer → List ℕ → Type 0
 Says n after a out = (n ≡ guidelineWord a) × (after ≡ guidelinePut a out)
+
+-- the guideline of what the two structs stand for
+pub own-is : (header contaminant : List ℕ) {h : Header} {r : Contaminant} {a : GuidelineAnswer} → h ≡ headerFrom header → r ≡ contaminantFrom contaminant →
+    a ≡ guidelineOf (h .scenario) (h .medium) r → a ≡ guidelineOf (headerFrom header .scenario) (headerFrom header .medium) (contaminantFrom contaminant)
+own-is header contaminant p q e = e ∙ (λ i. guidelineOf (p i .scenario) (p i .medium) (q i))
 
 module _ (header contaminant out : List ℕ) {a : GuidelineAnswer} (e : a ≡ guidelineOf (headerFrom header .scenario) (headerFrom header .medium) (contaminantFrom contaminant)) where
   -- the answer of the call itself, then the room

@@ -25,7 +25,7 @@ use Rattle.listing_rules.specs.Listing.{linesTo}
 use Rattle.listing.specs.Asked.{sideRead, blockLines, blockLinesTo, Written}
 
 -- ---- a word of bytes
-word-most : (l : List ℕ) → ((i : ℕ) → getD l i 0 < 256) → (at : ℕ) → wordAt l at < 4294967296
+pub word-most : (l : List ℕ) → ((i : ℕ) → getD l i 0 < 256) → (at : ℕ) → wordAt l at < 4294967296
 unfolding wordAt
 word-most l byte at = omega (arith, byte at, byte (at + 1), byte (at + 2), byte (at + 3))
 

@@ -18,8 +18,8 @@ pub struct Listed {
     pub length: usize,
 }
 
-// The guidelines of a side, in the four fields from `at` on.
-fn get_side(block: &[u8], at: usize) -> SideGuidelines
+// The guidelines of a side, in the four fields of a result block from `at` on.
+pub fn get_side(block: &[u8], at: usize) -> SideGuidelines
     requires { ⌜ (at ≤ 100) × (at + 32 ≤ length (now block)) ⌝ }
     ensures { λ g. ⌜ g ≡ sideRead (now (block .entry)) at ⌝ }
 {

@@ -7,3 +7,4 @@ pub mod WrittenSite
 pub mod RefusalTable
 pub mod AnswerBounds
 pub mod ReadBack
+pub mod SingleSite

@@ -1,12 +1,9 @@
 -- `gv::gv_guideline` meets its contract. Assumes nothing.
-use mathlib.Core.Path.{_≡_, sym, ap, _∙_}
+use mathlib.Core.Path.{sym, ap, _∙_}
 use Prim.Native.Nat.{ℕ}
 use borrow.Author.Tests.{not-true, not-false}
-use Rattle.guideline_rules.specs.Guideline.{guidelineOf}
-use Rattle.inputs.specs.declared.Contaminant.{Contaminant}
-use Rattle.block_rules.specs.declared.Header.{Header}
-use Rattle.gv_rules.specs.Exports.{wordOf, headerFrom}
-use Rattle.gv.proofs.Guidelines.{says-refused, says-no-room, says-written}
+use Rattle.gv_rules.specs.Exports.{wordOf}
+use Rattle.gv.proofs.Guidelines.{own-is, says-refused, says-no-room, says-written}
 use borrow.Author.Needs.{needs}
 use Rattle.gv.proofs.gv_guideline.Statement.{statement}
 use Rattle.gv.proofs.gv_guideline.Tie as tie
@@ -17,8 +14,8 @@ header-from-requires c κs = search needs
 contaminant-from-requires : tie.Need-contaminant-from-requires
 contaminant-from-requires c κs = search needs
 
-guideline-requires : tie.Need-guideline-requires
-guideline-requires c κs = search needs
+single-requires : tie.Need-single-requires
+single-requires c κs = c .contaminant-from .ensures .1
 
 accepted-requires : tie.Need-accepted-requires
 accepted-requires c κs = search needs
@@ -34,13 +31,12 @@ returns c =
     let refused = c .before .before in
     let accepted = refused .before in
     let own = accepted .before in
-    let record-read = own .before in
-    let header-read = record-read .before .before in
-    let s = header-read .before .before .before .before .args in
-    let e = own .guideline .ensures ∙ ap (λ (h : Header). guidelineOf (h .scenario) (h .medium) (record-read .contaminant-from .result)) (header-read .header-from .ensures)
-    ∙ ap (λ (r : Contaminant). guidelineOf (headerFrom (s .header .now) .scenario) (headerFrom (s .header .now) .medium) r) (record-read .contaminant-from .ensures) in
+    let contaminant = own .before in
+    let header = contaminant .before in
+    let s = header .before .before .before .before .args in
+    let e = own-is (s .header .now) (s .contaminant .now) (header .header-from .ensures) (contaminant .contaminant-from .ensures .0) (own .single .ensures) in
     says-refused (s .header .now) (s .contaminant .now) (s .out .now) e (sym (accepted .accepted .ensures) ∙ not-true _ (refused .if1 .taken))
-    (c .word-of .ensures ∙ ap (λ (n : ℕ). wordOf n (own .guideline .result .block) 0 0) (c .before .number .ensures))
+    (c .word-of .ensures ∙ ap (λ (n : ℕ). wordOf n (own .single .result .block) 0 0) (c .before .number .ensures))
 
 number-requires-2 : tie.Need-number-requires-2
 number-requires-2 c κs = search needs
@@ -54,11 +50,10 @@ returns-2 c =
     let kept = short .before in
     let accepted = kept .before in
     let own = accepted .before in
-    let record-read = own .before in
-    let header-read = record-read .before .before in
-    let s = header-read .before .before .before .before .args in
-    let e = own .guideline .ensures ∙ ap (λ (h : Header). guidelineOf (h .scenario) (h .medium) (record-read .contaminant-from .result)) (header-read .header-from .ensures)
-    ∙ ap (λ (r : Contaminant). guidelineOf (headerFrom (s .header .now) .scenario) (headerFrom (s .header .now) .medium) r) (record-read .contaminant-from .ensures) in
+    let contaminant = own .before in
+    let header = contaminant .before in
+    let s = header .before .before .before .before .args in
+    let e = own-is (s .header .now) (s .contaminant .now) (header .header-from .ensures) (contaminant .contaminant-from .ensures .0) (own .single .ensures) in
     says-no-room (s .header .now) (s .contaminant .now) (s .out .now) e (sym (accepted .accepted .ensures) ∙ not-false _ (kept .if1 .left)) (short .if2 .taken)
     (c .word-of2 .ensures ∙ ap (λ (n : ℕ). wordOf n 0 0 0) (c .before .number2 .ensures))
 
@@ -77,18 +72,16 @@ same-length c = search needs
 returns-3 : tie.Need-returns-3
 returns-3 c =
     let put = c .before .before .before .before in
-    let roomy = put .before .before in
+    let roomy = put .before .before .before .before in
     let kept = roomy .before in
     let accepted = kept .before in
     let own = accepted .before in
-    let record-read = own .before in
-    let header-read = record-read .before .before in
-    let s = header-read .before .before .before .before .args in
-    let e = own .guideline .ensures ∙ ap (λ (h : Header). guidelineOf (h .scenario) (h .medium) (record-read .contaminant-from .result)) (header-read .header-from .ensures)
-    ∙ ap (λ (r : Contaminant). guidelineOf (headerFrom (s .header .now) .scenario) (headerFrom (s .header .now) .medium) r) (record-read .contaminant-from .ensures) in
+    let contaminant = own .before in
+    let header = contaminant .before in
+    let s = header .before .before .before .before .args in
+    let e = own-is (s .header .now) (s .contaminant .now) (header .header-from .ensures) (contaminant .contaminant-from .ensures .0) (own .single .ensures) in
     says-written (s .header .now) (s .contaminant .now) (s .out .now) e (sym (accepted .accepted .ensures) ∙ not-false _ (kept .if1 .left)) (roomy .if2 .left)
-    (c .word-of3 .ensures ∙ ap (λ (n : ℕ). wordOf n (own .guideline .result .block) 0 0) (c .before .number3 .ensures))
-    (put .put-guidelines .ensures)
+    (c .word-of3 .ensures ∙ ap (λ (n : ℕ). wordOf n (own .single .result .block) 0 0) (c .before .number3 .ensures)) (put .put-guidelines .ensures)
 
 pub gv-guideline-spec : {M : Type 1} → statement M
 gv-guideline-spec =
@@ -96,7 +89,7 @@ gv-guideline-spec =
     (tie.spec
     header-from-requires
     contaminant-from-requires
-    guideline-requires
+    single-requires
     accepted-requires
     number-requires
     word-of-requires

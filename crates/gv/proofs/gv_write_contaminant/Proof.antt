@@ -26,7 +26,7 @@ returns c =
     let written = c .before .before .before in
     let read = written .before .before in
     let s = read .before .before .before .args in
-    let e = read .contaminant-from .ensures in
+    let e = read .contaminant-from .ensures .0 in
     let w = written .write-contaminant .ensures in (
       c .number .ensures ∙ ap (λ (a : Answer). numberOf (a .refusal)) (w .0) ∙ ap (λ (x : Contaminant). numberOf (contaminantRefusal (length (s .out .now)) (s .place) x)) e,
       w .1 ∙ ap (contaminantLeft (s .out .now) (s .place)) e,

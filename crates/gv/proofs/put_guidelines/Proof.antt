@@ -24,9 +24,9 @@ returns : tie.Need-returns
 returns c =
     let second = c .before .before in
     let first = second .before .before .before .before in
-    let v = first .before .before .before .before .before .args in
-    let r = v .a .risk in
-    let h = v .a .hazard in
+    let v = first .before .before .before .args in
+    let r = v .r in
+    let h = v .h in
     let x : List Decimal = r .first ∷ (r .second ∷ (r .third ∷ (r .total ∷ []))) in
     let y : List Decimal = h .first ∷ (h .second ∷ (h .third ∷ (h .total ∷ []))) in
     let w₁ = wrote-next (first .put-four .last .0) (fieldBytes x) 32 (wrote-none (v .out .now)) (first .put-four .ensures) (fieldBytes-length x) in
