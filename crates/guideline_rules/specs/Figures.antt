@@ -3,6 +3,7 @@ use mathlib.Core.List.{List, [], _∷_, _++_}
 use lib.ListN.{getD}
 use lib.IntN.{pos, negsuc}
 use Rattle.rounding.specs.declared.Direction.the-variants.{Up}
+use Rattle.decimal.specs.declared.Decimal.{Decimal}
 use Rattle.decimal.specs.Decimal.{zeroOf}
 use Rattle.decimal.specs.Figures.{Figure, figures, dec, _is_}
 use Rattle.inputs.specs.declared.Contaminant.{Contaminant}
@@ -11,9 +12,9 @@ use Rattle.formulas.specs.Formula.{none, pathwaysOf}
 use Rattle.formulas.specs.Term.{termOf, inputsOf, valuesOf}
 use Rattle.guideline_rules.specs.Guideline.{guidelineOf}
 
--- a chemical with SFo 1 and RfDo 0.02, all else zero
-abbrev pub chemical : Contaminant
-chemical = record {
+-- a chemical with SFo 1, RfDo 0.02 and a concentration, all else zero
+abbrev pub sample : Decimal → Contaminant
+sample c = record {
   class = 1;
   id = 1;
   sfo = dec 1 (pos 0);
@@ -23,8 +24,11 @@ chemical = record {
   rfdi = zeroOf;
   vf = zeroOf;
   pc = zeroOf;
-  c = zeroOf;
+  c = c;
 }
+
+abbrev pub chemical : Contaminant
+chemical = sample zeroOf
 
 unfoldable pub officeFigures : List Figure
 officeFigures =

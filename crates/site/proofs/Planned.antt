@@ -1,4 +1,4 @@
--- A site whose blocks were all found: its records can be written, and what is written is the answer. Assumes nothing.
+-- A site whose blocks were all found: its plan is accepted, its records can be written, and what is written is the answer. Assumes nothing.
 use mathlib.Core.Path.{_≡_, sym, ap, ap₂, _∙_}
 use mathlib.Core.Bool.{true, false}
 use mathlib.Core.List.{List}
@@ -7,7 +7,6 @@ use native.Mathlib.Omega.{arith}
 use lib.Dec.{eqb}
 use lib.ListN.{length, length-append}
 use borrow.Author.Tests.{eqb-true, eqb-false}
-use Rattle.outcome.specs.declared.Refusal.the-variants.{Accepted}
 use Rattle.outcome.specs.Outcome.{numberOf}
 use Rattle.inputs.specs.declared.Scenario.{Scenario}
 use Rattle.words.specs.Bytes.{over}
@@ -17,7 +16,8 @@ use Rattle.block_rules.specs.Layouts.{summaryBlock}
 use Rattle.block_rules.proofs.ResultsBack.{summary-length}
 use Rattle.sums.specs.declared.shares.Plan.{Plan}
 use Rattle.sum_rules.specs.declared.SumsAnswer.{SumsAnswer}
-use Rattle.sums.specs.Plan.{Planned}
+use Rattle.sums.specs.Plan.{Begun}
+use Rattle.sums.proofs.Started.{plan-fits}
 use Rattle.outcome.specs.declared.Answer.{Answer}
 use Rattle.site_rules.specs.Site.{siteAnswer}
 use Rattle.site_rules.specs.Results.{resultsTo, siteLeft, recordsFrom, allSums}
@@ -25,7 +25,8 @@ use Rattle.site.specs.Check.{checkBlocks, Writing, blocksOf}
 use Rattle.site_rules.specs.Passed.{Opened}
 use Rattle.site_rules.proofs.OutputBlocks.{results-long}
 use Rattle.site.proofs.Answers.{checking, checked-records, answer-sums, left-accepted}
-use Rattle.site_rules.proofs.Opened.{count-most, site-long}
+use Rattle.site_rules.proofs.Opened.{count-some, count-most, site-long}
+use Rattle.site_rules.proofs.SameSums.{first-accepted}
 
 -- what was found, from what the code tested
 pub found-zero : {c d : Answer} → c ≡ d → eqb (numberOf (c .refusal)) 0 ≡ true → numberOf (d .refusal) ≡ 0
@@ -34,17 +35,21 @@ found-zero {c} e h = sym (ap (λ (x : Answer). numberOf (x .refusal)) e) ∙ eqb
 pub found-nonzero : {c d : Answer} → c ≡ d → eqb (numberOf (c .refusal)) 0 ≡ false → numberOf (d .refusal) ≡ 0 → ⊥
 found-nonzero {c} e h z = eqb-false (numberOf (c .refusal)) 0 h (ap (λ (x : Answer). numberOf (x .refusal)) e ∙ z)
 
-module _ {site : List ℕ} {h : Header} {p : Plan} (o : Opened site h) (z : numberOf (checkBlocks (h .scenario) (h .medium) site (h .count) 1 0 .refusal) ≡ 0) (b : Planned (h .scenario) (h .medium) Accepted p) where
+module _ {site : List ℕ} {h : Header} {p : Plan} (o : Opened site h) (z : numberOf (checkBlocks (h .scenario) (h .medium) site (h .count) 1 0 .refusal) ≡ 0) (b : Begun (h .scenario) (h .medium) (h .count) p) where
+  plan-accepted : numberOf (p .refusal) ≡ 0
+  plan-accepted =
+      ap numberOf (b .refused ∙ first-accepted (h .scenario) (h .medium) (h .count) (count-some o) (count-most o) (checking o .fits) (checking o .known))
+
   same-scenario : p .scenario ≡ h .scenario
-  same-scenario = b .scenario
+  same-scenario = b .scenario plan-accepted
 
   same-medium : p .medium ≡ h .medium
-  same-medium = b .media
+  same-medium = b .media plan-accepted
 
   pub writing : Writing p site (h .count)
   writing = record {
     ready = b .ready;
-    passed = record { fits = rw (same-scenario, same-medium) (checking o .fits); known = rw same-scenario (checking o .known) };
+    passed = plan-fits b plan-accepted;
     long = checking o .long;
     most = count-most o;
     records = λ k l u. rw (same-scenario, same-medium) (checked-records o z k l u);

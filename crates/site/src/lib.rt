@@ -132,7 +132,7 @@ fn evaluate_blocks(site: &[u8], h: Header, out: &mut [u8]) -> SumsAnswer
     if out.len() < site.len() {
         return sums::refused(Refusal::Room, 0);
     }
-    let p = sums::shares::planned(s, h.medium, Refusal::Accepted);
+    let p = sums::shares::begin(s, h.medium, count as usize);
     put_results(site, p, count, out)
 }
 

@@ -1,28 +1,15 @@
 -- The example (docs/SPECIFICATION.md, "Checked figures"): the office worker in soil, one chemical, id 1, SFo 1, RfDo 0.02, C 2; the sums as printed there.
 use mathlib.Core.List.{List, [], _∷_}
 use lib.IntN.{pos, negsuc}
-use Rattle.decimal.specs.Decimal.{zeroOf}
 use Rattle.decimal.specs.Figures.{dec}
 use Rattle.outcome.specs.declared.Refusal.the-variants.{Accepted}
 use Rattle.inputs.specs.declared.Contaminant.{Contaminant}
+use Rattle.guideline_rules.specs.Figures.{sample}
 use Rattle.sum_rules.specs.declared.Verdict.the-variants.{Within}
 use Rattle.sum_rules.specs.declared.SumsAnswer.{SumsAnswer}
 
 abbrev pub example : List Contaminant
-example =
-    record {
-      class = 1;
-      id = 1;
-      sfo = dec 1 (pos 0);
-      sfi = zeroOf;
-      sfx = zeroOf;
-      rfdo = dec 2 (negsuc 1);
-      rfdi = zeroOf;
-      vf = zeroOf;
-      pc = zeroOf;
-      c = dec 2 (pos 0);
-    } ∷
-    []
+example = sample (dec 2 (pos 0)) ∷ []
 
 -- 3.49454850E-7 3.49454852E-7 within, 4.89236790E-5 4.89236792E-5 within
 abbrev pub printed : SumsAnswer

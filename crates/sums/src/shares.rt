@@ -75,7 +75,7 @@ fn first_refusal(s: Scenario, medium: u32, n: usize) -> Refusal
 }
 
 // The plan of a scenario and a medium that keep their rules.
-pub fn planned(s: Scenario, medium: u32, refusal: Refusal) -> Plan
+fn planned(s: Scenario, medium: u32, refusal: Refusal) -> Plan
     requires { ⌜ (allValid (scenarioDecimals s) ≡ true) × OneOrTwo medium ⌝ }
     ensures { λ p. ⌜ Planned s medium refusal p ⌝ }
 {

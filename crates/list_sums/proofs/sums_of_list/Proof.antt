@@ -51,9 +51,9 @@ use denote.Triple.Table.{entered, cited}
 use denote.Triple.Walked.{says, Stays, stay-none-slice, stay-none, walkOf, goes-none-slice, goes-none, Walks, ends-at, walked, walk-meets}
 use denote.Triple.Clauses.{Ended, Clauses, AtExit, atExit, lasts, ensured, closing}
 use denote.Exit.{yes}
-use Rattle.decimal.specs.Decimal.{zeroOf}
 use Rattle.inputs.specs.declared.Scenario.{Scenario}
 use Rattle.inputs.specs.declared.Contaminant.{Contaminant}
+use Rattle.inputs.specs.BuiltIn.{noContaminant}
 use Rattle.sums.specs.declared.shares.Plan.{Plan}
 use Rattle.sums.specs.declared.State.{State}
 use Rattle.sum_rules.specs.declared.SumsAnswer.{SumsAnswer}
@@ -105,10 +105,6 @@ half = tyInt w32
 abbrev slice : Ty
 slice = sliceTy (tyRef (named 0) imm (pointee (T.the-row .written)))
 
--- what is read past the end of the list, which is never
-noRecord : Contaminant
-noRecord = record { class = 0; id = 0; sfo = zeroOf; sfi = zeroOf; sfx = zeroOf; rfdo = zeroOf; rfdi = zeroOf; vf = zeroOf; pc = zeroOf; c = zeroOf }
-
 -- the byte offset of an element that is there fits a usize
 place-fits : (i n s : ℕ) → i < n → n * s < 2 ^ 63 → i * s < 2 ^ 64
 place-fits i n s l g = lt-trans (lt-of-le-of-lt (mul-le-mul-right s (le-of-lt l)) g) (lit< tt)
@@ -134,14 +130,14 @@ abbrev outset : (s : Scenario) (medium : ℕ) (ys : List Contaminant) (p : Plan)
 outset s medium ys p t v b e is = record { i = 0; st = t; v = v; is = is; good = rw e (started-good b); room = rw e (started-room b ys refl); left = rw e (started-answer b ys refl) }
 
 -- the records from i on: the i-th and those after it
-from-here : (ys : List Contaminant) (i : ℕ) → i < length ys → dropL i ys ≡ getD ys i noRecord ∷ dropL (i + 1) ys
-from-here ys i l = drop-cons ys i noRecord l ∙ ap (λ (k : ℕ). getD ys i noRecord ∷ dropL k ys) (sym (add-one i))
+from-here : (ys : List Contaminant) (i : ℕ) → i < length ys → dropL i ys ≡ getD ys i noContaminant ∷ dropL (i + 1) ys
+from-here ys i l = drop-cons ys i noContaminant l ∙ ap (λ (k : ℕ). getD ys i noContaminant ∷ dropL k ys) (sym (add-one i))
 
 -- one more record: room is left, and the answer stays the same
-roomy : (ys : List Contaminant) (i : ℕ) (st : State) → i < length ys → Room st (dropL i ys) → Room st (getD ys i noRecord ∷ dropL (i + 1) ys)
+roomy : (ys : List Contaminant) (i : ℕ) (st : State) → i < length ys → Room st (dropL i ys) → Room st (getD ys i noContaminant ∷ dropL (i + 1) ys)
 roomy ys i st l r = subst (Room st) (from-here ys i l) r
 
-one-more : (ys : List Contaminant) (i : ℕ) (p : Plan) (st st′ : State) (a : SumsAnswer) → i < length ys → Stepped p st (getD ys i noRecord) st′ → Room st (dropL i ys) → answerFrom p st (dropL i ys) ≡ a → answerFrom p st′ (dropL (i + 1) ys) ≡ a
+one-more : (ys : List Contaminant) (i : ℕ) (p : Plan) (st st′ : State) (a : SumsAnswer) → i < length ys → Stepped p st (getD ys i noContaminant) st′ → Room st (dropL i ys) → answerFrom p st (dropL i ys) ≡ a → answerFrom p st′ (dropL (i + 1) ys) ≡ a
 one-more ys i p st st′ a l e r h = sym (e .same (dropL (i + 1) ys) (roomy ys i st l r)) ∙ sym (ap (answerFrom p st) (from-here ys i l)) ∙ h
 
 -- a call over plain data, of a callee that promises φ of its result
@@ -228,7 +224,7 @@ module _ {M : Type 1} (𝓤 : URA M) (H : Heap 𝓤) (A : Atoms 𝓤) (W : Given
     Turns = Upto s k ys p
 
     abbrev elem : Turns → Contaminant
-    elem t = getD ys (t .i) noRecord
+    elem t = getD ys (t .i) noContaminant
 
     abbrev mach : Turns → Val
     mach t = LL.tuple-val T.the-type T′.the-laws (T.the-type .to (elem t))
@@ -267,10 +263,10 @@ module _ {M : Type 1} (𝓤 : URA M) (H : Heap 𝓤) (A : Atoms 𝓤) (W : Given
         -- the slice's fractured borrow is copied, and looked into
         move ! (1 ∷ []) $ use1 W (‵ Own ⊛ ‵ Own) (shr-slice-copy 𝓤 H A W (named 0) κ T.the-row .twice x (vl ∷ [])) $ split ! $ fsplit ! $ drop ! $ fsplit ! $ drop ! $ move ! (0 ∷ 2 ∷ []) $
         looks-slice ! tt T.the-row (Is T.the-row) (shows 𝓤 H A T.the-row) (LL.vals T.the-type T′.the-laws) (LL.tells T.the-type T′.the-laws) (LL.copy T.the-type T′.the-copy 𝓤 H A W) ys b o (λ q′.
-        elem-out ! T.the-row (Is T.the-row) (shows 𝓤 H A T.the-row) (LL.vals T.the-type T′.the-laws) (LL.tells T.the-type T′.the-laws) q′ ys (t .i) noRecord b o less (λ g.
+        elem-out ! T.the-row (Is T.the-row) (shows 𝓤 H A T.the-row) (LL.vals T.the-type T′.the-laws) (LL.tells T.the-type T′.the-laws) q′ ys (t .i) noContaminant b o less (λ g.
         -- [list[i]; what it owns; the others; what shuts; the fractured borrow; Own; _11; …; _10; …]
         assigns ! (of-opd ! (load ! (from ! (hop ! (look ! 8 refl) (stop !))) (look-raw ! 0 refl))) (from ! (stop !)) (init ! 6 refl (LL.lawful T.the-type T′.the-laws 𝓤 H A W .typed (elem t) (mach t ∷ []) g .0)) $
-        elem-back ! T.the-row q′ ys (t .i) noRecord (mach t ∷ []) b o less $ shuts-slice ! tt T.the-row q′ ys b o $ move ! (1 ∷ []) $ drop ! $
+        elem-back ! T.the-row q′ ys (t .i) noContaminant (mach t ∷ []) b o less $ shuts-slice ! tt T.the-row q′ ys b o $ move ! (1 ∷ []) $ drop ! $
         -- [the token; Own; _11; …]: the call of `step`
         calls-plain 𝓤 H A step.ended (step.clauses 𝓤 H A mem run) ((tt, tt, tt, (p, (t .st, (elem t, tt))), (vp ∷ [], (t .v ∷ [], (mach t ∷ [], tt)))), tt) ! (fmOf 𝓤 H (W .laws) 𝓣) (known .steps) (id⊢ 𝓤 (emp 𝓤))
         (plan-made, (state-made, (LL.makes T.the-type T′.the-plain 𝓤 H A, tt))) (gp, (t .is, (g, tt))) (factI 𝓤 (Good p (t .st)) (emp 𝓤) (t .good))

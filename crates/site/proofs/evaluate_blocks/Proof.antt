@@ -5,7 +5,6 @@ use lib.ListN.{length}
 use borrow.Author.Tests.{not-true, not-false}
 use Rattle.sum_rules.specs.ListCall.{refused}
 use Rattle.outcome.specs.declared.Answer.{Answer}
-use Rattle.sums.proofs.States.{fits-parts}
 use Rattle.site.proofs.Answers.{checking, answer-refused, answer-room}
 use Rattle.site_rules.proofs.Opened.{site-long, left-refused}
 use Rattle.site.proofs.Planned.{found-nonzero, found-zero, writing, planned-sums, left-length}
@@ -48,10 +47,11 @@ returns-2 c =
     let e = answer-room (entry .pre) z (length (a .out .now)) (c .before .if2 .taken) in
     (c .refused2 .ensures ∙ sym e, sym (left-refused (a .site .now) (a .out .now) _ e (λ q. omega (arith, q))))
 
-planned-requires : tie.Need-planned-requires
-planned-requires c κs =
-    let entry = c .before .before .before .before .before .before .before in
-    fits-parts (entry .args .h .scenario) (entry .args .h .medium) (checking (entry .pre) .fits)
+cast-begin : tie.Need-cast-begin
+cast-begin c = search needs
+
+begin-requires : tie.Need-begin-requires
+begin-requires c κs = search needs
 
 put-results-requires : tie.Need-put-results-requires
 put-results-requires c κs =
@@ -61,7 +61,7 @@ put-results-requires c κs =
     let checked = accepted .before in
     let entry = checked .before .before .before .before in
     let z = found-zero (checked .check-blocks .ensures) (sym (accepted .accepted .ensures) ∙ not-false _ (kept .if1 .left)) in
-    (writing (entry .pre) z (c .before .planned .ensures), omega (arith, site-long (entry .pre), roomy .if2 .left))
+    (writing (entry .pre) z (c .before .begin .ensures), omega (arith, site-long (entry .pre), roomy .if2 .left))
 
 same-length : tie.Need-same-length
 same-length c =
@@ -73,7 +73,7 @@ same-length c =
     let checked = accepted .before in
     let entry = checked .before .before .before .before in
     let z = found-zero (checked .check-blocks .ensures) (sym (accepted .accepted .ensures) ∙ not-false _ (kept .if1 .left)) in
-    left-length (entry .pre) z (planned .planned .ensures) (entry .args .out .now) (put .put-results .ensures .0) (put .put-results .ensures .1) (roomy .if2 .left)
+    left-length (entry .pre) z (planned .begin .ensures) (entry .args .out .now) (put .put-results .ensures .0) (put .put-results .ensures .1) (roomy .if2 .left)
 
 returns-3 : tie.Need-returns-3
 returns-3 c =
@@ -85,7 +85,7 @@ returns-3 c =
     let checked = accepted .before in
     let entry = checked .before .before .before .before in
     let z = found-zero (checked .check-blocks .ensures) (sym (accepted .accepted .ensures) ∙ not-false _ (kept .if1 .left)) in
-    planned-sums (entry .pre) z (planned .planned .ensures) (entry .args .out .now) (put .put-results .ensures .0) (put .put-results .ensures .1) (roomy .if2 .left)
+    planned-sums (entry .pre) z (planned .begin .ensures) (entry .args .out .now) (put .put-results .ensures .0) (put .put-results .ensures .1) (roomy .if2 .left)
 
 pub evaluate-blocks-spec : {M : Type 1} → statement M
 evaluate-blocks-spec =
@@ -97,7 +97,8 @@ evaluate-blocks-spec =
     returns
     refused-requires-2
     returns-2
-    planned-requires
+    cast-begin
+    begin-requires
     put-results-requires
     same-length
     returns-3)
