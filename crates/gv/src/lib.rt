@@ -1,25 +1,15 @@
 // The functions of the C library. Each takes numbers and lent bytes, and calls the proved function behind it.
 use block_rules::Header;
-use guideline_rules::GuidelineAnswer;
-use guideline_rules::SideGuidelines;
-use inputs::Contaminant;
 use inputs::Scenario;
-use outcome::Answer;
 use outcome::Refusal;
 use sum_rules::SumsAnswer;
 ghost use mathlib.Core.Path.{_≡_};
-ghost use Prim.Native.Nat.{_≤_, _<_};
 ghost use lib.ListN.{length};
 ghost use Rattle.outcome.specs.Outcome.{numberOf};
-ghost use Rattle.fields.specs.Fields.{fieldBytes};
-ghost use Rattle.words.specs.Bytes.{over};
-ghost use Rattle.block_rules.specs.Layouts.{guidelineDecimals};
 ghost use Rattle.block_rules.specs.Answers.{headerRefusal, headerLeft, contaminantRefusal, contaminantLeft};
 ghost use Rattle.site_rules.specs.Site.{siteAnswer};
 ghost use Rattle.site_rules.specs.Results.{siteLeft};
 ghost use Rattle.listing_rules.specs.Listing.{textLength, textLeft};
-ghost use Rattle.guideline_rules.specs.Guideline.{guidelineOf};
-ghost use Rattle.gv.specs.Single.{Single};
 ghost use Rattle.gv_rules.specs.Exports.{wordOf, packed, headerFrom, contaminantFrom, guidelineSent, guidelineWord, guidelinePut, builtInSent, builtInPut};
 
 // The word of four numbers: a byte each where they are below 256.
@@ -46,37 +36,6 @@ pub fn pack(a: SumsAnswer) -> u64
     )
 }
 
-// The header in a struct gv_header. A struct of another form stands for one that keeps no rule.
-fn header_from(header: &[u8]) -> Header
-    ensures { λ h. ⌜ h ≡ headerFrom (now (header .entry)) ⌝ }
-{
-    let none = Header {
-        medium: 0,
-        count: 0,
-        scenario: Scenario::BLANK,
-    };
-    if header.len() != 104 {
-        return none;
-    }
-    if !fields::unused_zero(header, 8, 12) {
-        return none;
-    }
-    blocks::get_header(header, 0)
-}
-
-// The contaminant in a struct gv_contaminant. A struct of another form stands for one that keeps no rule.
-fn contaminant_from(contaminant: &[u8]) -> Contaminant
-    ensures { λ r. ⌜ (r ≡ contaminantFrom (now (contaminant .entry))) × (r .id < 4294967296) ⌝ }
-{
-    if contaminant.len() != 72 {
-        return Contaminant::NONE;
-    }
-    if !fields::unused_zero(contaminant, 8, 8) {
-        return Contaminant::NONE;
-    }
-    blocks::get_contaminant(contaminant, 0)
-}
-
 // Evaluates a site: see include/gv.h.
 #[no_mangle]
 pub extern "C" fn gv_site(site: &[u8], out: &mut [u8]) -> u64
@@ -94,84 +53,14 @@ pub extern "C" fn gv_list(site: &[u8], out: &mut [u8], text: &mut [u8]) -> u64
     listed.length as u64
 }
 
-// Writes the eight guidelines: risk, then hazard.
-fn put_guidelines(out: &mut [u8], r: SideGuidelines, h: SideGuidelines)
-    requires { ⌜ 64 ≤ length (now out) ⌝ }
-    ensures { λ _. ⌜ now (out .exit) ≡ over (fieldBytes (guidelineDecimals r h)) (now (out .entry)) ⌝ }
-{
-    fields::put_four(out, 0, r.first, r.second, r.third, r.total);
-    fields::put_four(out, 32, h.first, h.second, h.third, h.total);
-}
-
-// Writes the site of one contaminant; or the refusal of the header in block 0, of the contaminant in block 1.
-fn write_single(site: &mut [u8], h: Header, r: Contaminant) -> Answer
-    requires { ⌜ length (now site) ≡ 1024 ⌝ }
-    ensures { λ a. ⌜ Single h r a (now (site .exit)) ⌝ }
-{
-    let scenario = h.scenario;
-    let one = Header {
-        medium: h.medium,
-        count: 1,
-        scenario,
-    };
-    let a = writers::write_header(site, one);
-    let first = a.refusal;
-    if !outcome::accepted(first) {
-        return Answer {
-            refusal: first,
-            block: 0,
-        };
-    }
-    let b = writers::write_contaminant(&mut site[512..1024], 1, r);
-    let second = b.refusal;
-    if !outcome::accepted(second) {
-        return Answer {
-            refusal: second,
-            block: 1,
-        };
-    }
-    Answer {
-        refusal: second,
-        block: 0,
-    }
-}
-
-// The single guideline, worked out by the site call on a site of one contaminant: a second way to the terms in this library
-// would cost the site call its speed (docs/SPEED.md).
-fn single(h: Header, r: Contaminant) -> GuidelineAnswer
-    requires { ⌜ r .id < 4294967296 ⌝ }
-    ensures { λ g. ⌜ g ≡ guidelineOf (h .scenario) (h .medium) r ⌝ }
-{
-    let mut site = [0u8; 1024];
-    let a = write_single(&mut site, h, r);
-    let refusal = a.refusal;
-    if !outcome::accepted(refusal) {
-        return guideline::refused(refusal, a.block);
-    }
-    let mut results = [0u8; 1024];
-    let b = site::evaluate(&site, &mut results);
-    let sent = b.refusal;
-    if !outcome::accepted(sent) {
-        return guideline::refused(sent, b.block);
-    }
-    let risk = listing::get_side(&results[512..1024], 16);
-    let hazard = listing::get_side(&results[512..1024], 48);
-    GuidelineAnswer {
-        refusal: sent,
-        block: b.block,
-        risk,
-        hazard,
-    }
-}
-
 // The single guideline of a struct gv_header, whose count is not looked at, and a struct gv_contaminant: see include/gv.h.
 #[no_mangle]
 pub extern "C" fn gv_guideline(header: &[u8], contaminant: &[u8], out: &mut [u8]) -> u64
     ensures { λ n. ⌜ (n ≡ guidelineWord (guidelineSent (now (header .entry)) (now (contaminant .entry)) (length (now (out .entry))))) × (now (out .exit) ≡ guidelinePut (guidelineSent (now (header .entry)) (now (contaminant .entry)) (length (now (out .entry)))) (now (out .entry))) ⌝ }
 {
-    let h = header_from(header);
-    let r = contaminant_from(contaminant);
-    let a = single(h, r);
+    let h = c_structs::header_from(header);
+    let r = c_structs::contaminant_from(contaminant);
+    let a = one_contaminant::single(h, r);
     let refusal = a.refusal;
     if !outcome::accepted(refusal) {
         return word_of(outcome::number(refusal), a.block, 0, 0);
@@ -181,7 +70,7 @@ pub extern "C" fn gv_guideline(header: &[u8], contaminant: &[u8], out: &mut [u8]
     }
     let risk = a.risk;
     let hazard = a.hazard;
-    put_guidelines(out, risk, hazard);
+    c_structs::put_guidelines(out, risk, hazard);
     word_of(outcome::number(refusal), a.block, 0, 0)
 }
 
@@ -190,7 +79,7 @@ pub extern "C" fn gv_guideline(header: &[u8], contaminant: &[u8], out: &mut [u8]
 pub extern "C" fn gv_write_header(out: &mut [u8], header: &[u8]) -> u32
     ensures { λ n. ⌜ (n ≡ numberOf (headerRefusal (length (now (out .entry))) (headerFrom (now (header .entry))))) × (now (out .exit) ≡ headerLeft (now (out .entry)) (headerFrom (now (header .entry)))) ⌝ }
 {
-    let h = header_from(header);
+    let h = c_structs::header_from(header);
     let a = writers::write_header(out, h);
     let refusal = a.refusal;
     outcome::number(refusal)
@@ -201,7 +90,7 @@ pub extern "C" fn gv_write_header(out: &mut [u8], header: &[u8]) -> u32
 pub extern "C" fn gv_write_contaminant(out: &mut [u8], place: u32, contaminant: &[u8]) -> u32
     ensures { λ n. ⌜ (n ≡ numberOf (contaminantRefusal (length (now (out .entry))) place (contaminantFrom (now (contaminant .entry))))) × (now (out .exit) ≡ contaminantLeft (now (out .entry)) place (contaminantFrom (now (contaminant .entry)))) ⌝ }
 {
-    let r = contaminant_from(contaminant);
+    let r = c_structs::contaminant_from(contaminant);
     let a = writers::write_contaminant(out, place, r);
     let refusal = a.refusal;
     outcome::number(refusal)

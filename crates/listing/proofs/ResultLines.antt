@@ -8,7 +8,7 @@ use lib.ListN.{length, getD}
 use Rattle.decimal.specs.Decimal.{zeroOf}
 use Rattle.outcome.specs.Outcome.{numberOf}
 use Rattle.inputs.specs.declared.Scenario.{Scenario}
-use Rattle.words.specs.Words.{wordAt}
+use Rattle.words.proofs.Words.{word-most}
 use Rattle.words.proofs.Parts.{word-part}
 use Rattle.fields.specs.Fields.{decimalsAt}
 use Rattle.block_rules.specs.Reading.{contaminantAt}
@@ -23,11 +23,6 @@ use Rattle.site_rules.proofs.OutputBlocks.{output-length}
 use Rattle.listing_rules.specs.Lines.{linesOf}
 use Rattle.listing_rules.specs.Listing.{linesTo}
 use Rattle.listing.specs.Asked.{sideRead, blockLines, blockLinesTo, Written}
-
--- ---- a word of bytes
-pub word-most : (l : List ℕ) → ((i : ℕ) → getD l i 0 < 256) → (at : ℕ) → wordAt l at < 4294967296
-unfolding wordAt
-word-most l byte at = omega (arith, byte at, byte (at + 1), byte (at + 2), byte (at + 3))
 
 -- ---- what is read from a result block
 block-spells : {b : List ℕ} {p class id : ℕ} {risk hazard : SideGuidelines} → ResultRead b p class id risk hazard → id < 4294967296 → blockLines b ≡ linesOf class id risk hazard

@@ -54,3 +54,8 @@ four-bytes v h =
     (ap (λ (q : ℕ). 256 * q + v / 256 % 256) (sym (div-div-eq-div-mul v 256 256)) ∙ div-add-mod (v / 256) 256)
     (ap (λ (q : ℕ). 256 * q + v / 65536 % 256) (sym (div-div-eq-div-mul v 65536 256)) ∙ div-add-mod (v / 65536) 256)
     (mod-eq-of-lt (omega arith))
+
+-- ---- a word of bytes is below 2^32
+pub word-most : (l : List ℕ) → ((i : ℕ) → getD l i 0 < 256) → (at : ℕ) → wordAt l at < 4294967296
+unfolding wordAt
+word-most l byte at = omega (arith, byte at, byte (at + 1), byte (at + 2), byte (at + 3))

@@ -1,4 +1,4 @@
--- `gv::put_guidelines` meets its contract. Assumes nothing.
+-- `c_structs::put_guidelines` meets its contract. Assumes nothing.
 use mathlib.Core.Path.{sym, ap, _∙_}
 use mathlib.Core.List.{List, [], _∷_}
 use Prim.Native.Nat.{ℕ}
@@ -8,8 +8,8 @@ use Rattle.decimal.specs.declared.Decimal.{Decimal}
 use Rattle.fields.specs.Fields.{fieldBytes}
 use Rattle.fields.proofs.ReadBack.{fieldBytes-length, fieldBytes-append}
 use borrow.Author.Needs.{needs}
-use Rattle.gv.proofs.put_guidelines.Statement.{statement}
-use Rattle.gv.proofs.put_guidelines.Tie as tie
+use Rattle.c_structs.proofs.put_guidelines.Statement.{statement}
+use Rattle.c_structs.proofs.put_guidelines.Tie as tie
 
 put-four-requires : tie.Need-put-four-requires
 put-four-requires c κs = search needs

@@ -36,7 +36,7 @@ use Rattle.site_rules.specs.Results.{siteLeft}
 use Rattle.site_rules.proofs.SingleSite.{single-answer, single-result}
 use Rattle.listing.specs.Asked.{sideRead}
 use Rattle.site_rules.specs.Written.{blocksFrom, siteOf}
-use Rattle.gv.specs.Single.{oneOf, Written, Single}
+use Rattle.one_contaminant.specs.Single.{oneOf, Written, Single}
 
 module _ (h : Header) (r : Contaminant) where
   -- ---- the header: 4, then 6, in block 0

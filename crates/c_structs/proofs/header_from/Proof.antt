@@ -1,11 +1,11 @@
--- `gv::header_from` meets its contract. Assumes nothing.
+-- `c_structs::header_from` meets its contract. Assumes nothing.
 use mathlib.Core.Path.{sym, _∙_}
 use native.Mathlib.Omega.{arith}
 use lib.ListN.{length}
 use borrow.Author.Tests.{eq-eqb, ne-eqb, not-true, not-false}
 use Rattle.gv_rules.specs.Exports.{headerForm, headerFrom}
-use Rattle.gv.proofs.header_from.Statement.{statement}
-use Rattle.gv.proofs.header_from.Tie as tie
+use Rattle.c_structs.proofs.header_from.Statement.{statement}
+use Rattle.c_structs.proofs.header_from.Tie as tie
 
 returns : tie.Need-returns
 unfolding headerFrom headerForm

@@ -1,11 +1,11 @@
--- `gv::write_single` meets its contract. Assumes nothing.
+-- `one_contaminant::write_single` meets its contract. Assumes nothing.
 use mathlib.Core.Path.{sym, _∙_}
 use borrow.Author.Tests.{not-true, not-false}
-use Rattle.gv.proofs.Singles.{single-header, single-record, single-both}
+use Rattle.one_contaminant.proofs.Singles.{single-header, single-record, single-both}
 use borrow.Author.Needs.{needs}
-use Rattle.gv.proofs.write_single.Statement.{statement}
-use Rattle.gv.proofs.write_single.Tie as tie
-use Rattle.gv.proofs.write_single.Reads as reads
+use Rattle.one_contaminant.proofs.write_single.Statement.{statement}
+use Rattle.one_contaminant.proofs.write_single.Tie as tie
+use Rattle.one_contaminant.proofs.write_single.Reads as reads
 
 write-header-requires : tie.Need-write-header-requires
 write-header-requires c κs = search needs

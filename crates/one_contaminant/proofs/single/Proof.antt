@@ -1,12 +1,12 @@
--- `gv::single` meets its contract. Assumes nothing.
+-- `one_contaminant::single` meets its contract. Assumes nothing.
 use mathlib.Core.Path.{refl, sym, _∙_}
 use lib.ListN.{replicate}
 use borrow.Author.Tests.{eqb-true, eqb-false, not-true, not-false}
-use Rattle.gv.proofs.Singles.{evaluated-refused, evaluated-accepted}
+use Rattle.one_contaminant.proofs.Singles.{evaluated-refused, evaluated-accepted}
 use borrow.Author.Needs.{needs}
-use Rattle.gv.proofs.single.Statement.{statement}
-use Rattle.gv.proofs.single.Tie as tie
-use Rattle.gv.proofs.single.Reads as reads
+use Rattle.one_contaminant.proofs.single.Statement.{statement}
+use Rattle.one_contaminant.proofs.single.Tie as tie
+use Rattle.one_contaminant.proofs.single.Reads as reads
 
 slice-aggregate-write-single : tie.Need-slice-aggregate-write-single
 slice-aggregate-write-single c = search needs

@@ -1,14 +1,14 @@
--- `gv::contaminant_from` meets its contract. Assumes nothing.
+-- `c_structs::contaminant_from` meets its contract. Assumes nothing.
 use mathlib.Core.Path.{sym, ap, _∙_}
 use native.Mathlib.Omega.{arith}
 use lib.ListN.{length}
 use borrow.Author.Tests.{eq-eqb, ne-eqb, not-true, not-false}
 use Rattle.inputs.specs.declared.Contaminant.{Contaminant}
 use Rattle.block_rules.specs.Reading.{contaminantAt}
-use Rattle.listing.proofs.ResultLines.{word-most}
+use Rattle.words.proofs.Words.{word-most}
 use Rattle.gv_rules.specs.Exports.{contaminantForm, contaminantFrom}
-use Rattle.gv.proofs.contaminant_from.Statement.{statement}
-use Rattle.gv.proofs.contaminant_from.Tie as tie
+use Rattle.c_structs.proofs.contaminant_from.Statement.{statement}
+use Rattle.c_structs.proofs.contaminant_from.Tie as tie
 
 returns : tie.Need-returns
 unfolding contaminantFrom contaminantForm

@@ -1,0 +1,52 @@
+// The structs of the C header: a header or a contaminant out of its bytes, and the eight guidelines into theirs.
+use block_rules::Header;
+use guideline_rules::SideGuidelines;
+use inputs::Contaminant;
+use inputs::Scenario;
+ghost use mathlib.Core.Path.{_≡_};
+ghost use Prim.Native.Nat.{_≤_, _<_};
+ghost use lib.ListN.{length};
+ghost use Rattle.fields.specs.Fields.{fieldBytes};
+ghost use Rattle.words.specs.Bytes.{over};
+ghost use Rattle.block_rules.specs.Layouts.{guidelineDecimals};
+ghost use Rattle.gv_rules.specs.Exports.{headerFrom, contaminantFrom};
+
+// The header in a struct gv_header. A struct of another form stands for one that keeps no rule.
+pub fn header_from(header: &[u8]) -> Header
+    ensures { λ h. ⌜ h ≡ headerFrom (now (header .entry)) ⌝ }
+{
+    let none = Header {
+        medium: 0,
+        count: 0,
+        scenario: Scenario::BLANK,
+    };
+    if header.len() != 104 {
+        return none;
+    }
+    if !fields::unused_zero(header, 8, 12) {
+        return none;
+    }
+    blocks::get_header(header, 0)
+}
+
+// The contaminant in a struct gv_contaminant. A struct of another form stands for one that keeps no rule.
+pub fn contaminant_from(contaminant: &[u8]) -> Contaminant
+    ensures { λ r. ⌜ (r ≡ contaminantFrom (now (contaminant .entry))) × (r .id < 4294967296) ⌝ }
+{
+    if contaminant.len() != 72 {
+        return Contaminant::NONE;
+    }
+    if !fields::unused_zero(contaminant, 8, 8) {
+        return Contaminant::NONE;
+    }
+    blocks::get_contaminant(contaminant, 0)
+}
+
+// Writes the eight guidelines: risk, then hazard.
+pub fn put_guidelines(out: &mut [u8], r: SideGuidelines, h: SideGuidelines)
+    requires { ⌜ 64 ≤ length (now out) ⌝ }
+    ensures { λ _. ⌜ now (out .exit) ≡ over (fieldBytes (guidelineDecimals r h)) (now (out .entry)) ⌝ }
+{
+    fields::put_four(out, 0, r.first, r.second, r.third, r.total);
+    fields::put_four(out, 32, h.first, h.second, h.third, h.total);
+}
