@@ -9,7 +9,7 @@ ghost use Rattle.sum_rules.specs.ListCall.{sumsOf};
 pub fn sums_of_list(s: Scenario, medium: u32, list: &[Contaminant]) -> SumsAnswer
     ensures { λ a. ⌜ a ≡ sumsOf s medium (now (list .entry)) ⌝ }
 {
-    let p = sums::shares::begin(s, medium, list.len());
+    let p = shares::begin(s, medium, list.len());
     let mut t = sums::first(p);
     let mut i: usize = 0;
     while i < list.len() {

@@ -20,13 +20,14 @@ use Rattle.guideline_rules.specs.Guideline.{guidelineOf, accepted}
 use Rattle.guideline.proofs.ColumnBounds.{column-printable}
 use Rattle.guideline.proofs.Steps.{Terms-of, Columns-of, wide, risk-column, hazard-column, any-risk, any-hazard, accepted-out}
 use Rattle.guideline_rules.proofs.WorkedOut.{either}
-use Rattle.sums.specs.declared.shares.Plan.{Plan}
-use Rattle.sums.specs.declared.shares.Worked.{Worked}
-use Rattle.sums.specs.declared.shares.Runs.{Runs}
+use Rattle.shares.specs.declared.Plan.{Plan}
+use Rattle.shares.specs.declared.Worked.{Worked}
+use Rattle.shares.specs.declared.Runs.{Runs}
 use Rattle.sum_rules.specs.Share.{hasPathway}
-use Rattle.sums.specs.Plan.{PlanReady, PlanFits, Workable, WorkedFor, Addable, Added}
+use Rattle.shares.specs.Plan.{PlanReady, PlanFits, Workable, WorkedFor, Addable, Added}
 use Rattle.sums.specs.State.{RunsReady}
-use Rattle.sums.proofs.Steps.{inputs-of, next-runs, addable}
+use Rattle.shares.proofs.Plans.{inputs-of}
+use Rattle.sums.proofs.Steps.{next-runs, addable}
 use Rattle.site_rules.specs.Site.{blockAt}
 use Rattle.site_rules.specs.Results.{recordAt, resultAt}
 use Rattle.site_rules.specs.Passed.{RecordOk}

@@ -14,9 +14,9 @@ use Rattle.words.proofs.Written.{over-length}
 use Rattle.block_rules.specs.declared.Header.{Header}
 use Rattle.block_rules.specs.Layouts.{summaryBlock}
 use Rattle.block_rules.proofs.ResultsBack.{summary-length}
-use Rattle.sums.specs.declared.shares.Plan.{Plan}
+use Rattle.shares.specs.declared.Plan.{Plan}
 use Rattle.sum_rules.specs.declared.SumsAnswer.{SumsAnswer}
-use Rattle.sums.specs.Plan.{Begun}
+use Rattle.shares.specs.Plan.{Begun}
 use Rattle.sums.proofs.Started.{plan-fits}
 use Rattle.outcome.specs.declared.Answer.{Answer}
 use Rattle.site_rules.specs.Site.{siteAnswer}

@@ -3,10 +3,10 @@ use mathlib.Core.Path.{_≡_, sym, ap, subst, _∙_}
 use mathlib.Core.List.{List}
 use Prim.Native.Nat.{ℕ, _+_, _-_, _≤_, _<_}
 use native.Mathlib.Omega.{arith}
-use Rattle.sums.specs.declared.shares.Plan.{Plan}
-use Rattle.sums.specs.declared.shares.Runs.{Runs}
+use Rattle.shares.specs.declared.Plan.{Plan}
+use Rattle.shares.specs.declared.Runs.{Runs}
 use Rattle.sum_rules.specs.Share.{Running, start, next, runAll}
-use Rattle.sums.specs.Plan.{runningOf, noRuns}
+use Rattle.shares.specs.Plan.{runningOf, noRuns}
 use Rattle.sums.specs.State.{RunsReady}
 use Rattle.sums.proofs.States.{none-ready}
 use Rattle.site_rules.specs.Results.{recordAt, recordsFrom}

@@ -15,11 +15,11 @@ use Rattle.words.specs.Bytes.{over}
 use Rattle.block_rules.specs.declared.ContaminantRead.{ContaminantRead}
 use Rattle.block_rules.specs.declared.ContaminantRead.the-variants as C
 use Rattle.block_rules.specs.Reading.{contaminantRead}
-use Rattle.sums.specs.declared.shares.Plan.{Plan}
-use Rattle.sums.specs.declared.shares.Runs.{Runs}
+use Rattle.shares.specs.declared.Plan.{Plan}
+use Rattle.shares.specs.declared.Runs.{Runs}
 use Rattle.sum_rules.specs.declared.SumsAnswer.{SumsAnswer}
 use Rattle.sum_rules.specs.Share.{start, next, runAll, hasPathway}
-use Rattle.sums.specs.Plan.{PlanReady, PlanFits, runningOf}
+use Rattle.shares.specs.Plan.{PlanReady, PlanFits, runningOf}
 use Rattle.sums.specs.State.{RunsReady}
 use Rattle.outcome.specs.declared.Answer.{Answer}
 use Rattle.block_rules.specs.Layouts.{summaryBlock}

@@ -6,9 +6,9 @@ use block_rules::HeaderRead;
 use inputs::Scenario;
 use outcome::Answer;
 use outcome::Refusal;
+use shares::Plan;
+use shares::Runs;
 use sum_rules::SumsAnswer;
-use sums::shares::Plan;
-use sums::shares::Runs;
 ghost use mathlib.Core.Path.{_≡_};
 ghost use mathlib.Core.List.{_++_};
 ghost use Prim.Native.Nat.{_+_, _*_, _≤_};
@@ -79,12 +79,12 @@ fn put_block(site: &[u8], p: Plan, place: u32, x: Runs, out: &mut [u8]) -> Runs
     let from = at + 4;
     let to = at + 508;
     let r = blocks::get_contaminant(&site[from..to], 4);
-    let w = sums::shares::work(p, r);
+    let w = shares::work(p, r);
     let g = guideline::columns_of(p.up.factors.tr, p.up.factors.thi, w.above);
     let risk = guideline::decimals(g.risk);
     let hazard = guideline::decimals(g.hazard);
     writers::put_result(out, place, r.class, r.id, risk, hazard);
-    sums::shares::add_shares(x, w, g.risk.sum, g.hazard.sum)
+    shares::add_shares(x, w, g.risk.sum, g.hazard.sum)
 }
 
 // The result blocks of all contaminants, each in its own part of the output, and their sums.
@@ -132,7 +132,7 @@ fn evaluate_blocks(site: &[u8], h: Header, out: &mut [u8]) -> SumsAnswer
     if out.len() < site.len() {
         return sums::refused(Refusal::Room, 0);
     }
-    let p = sums::shares::begin(s, h.medium, count as usize);
+    let p = shares::begin(s, h.medium, count as usize);
     put_results(site, p, count, out)
 }
 

@@ -9,7 +9,7 @@ use Rattle.decimal.specs.Decimal.{decimalOf, Printable, valueOf, atMostOf}
 use Rattle.decimal.proofs.Laws.{decimal-worth, decimal-operable}
 use Rattle.terms.specs.Stands.{Stands}
 use Rattle.terms.proofs.StandsLaws.{stands-operand, stands-most}
-use Rattle.sums.specs.declared.shares.Runs.{Runs}
+use Rattle.shares.specs.declared.Runs.{Runs}
 use Rattle.sums.specs.State.{Comparable, SideReady, RunsReady}
 
 -- what a comparison of numbers asks

@@ -20,10 +20,10 @@ use Rattle.formulas.proofs.Sound.{table-sound, three-pathways}
 use Rattle.guideline_rules.proofs.Accepted.{Accepted, values-of}
 use Rattle.guideline.proofs.ColumnBounds.{SideStands, sum-stands, stands-zero}
 use Rattle.guideline_rules.proofs.WorkedOut.{any-total}
-use Rattle.sums.specs.declared.shares.SideRun.{SideRun}
+use Rattle.shares.specs.declared.SideRun.{SideRun}
 use Rattle.sum_rules.specs.Share.{Running, next, termSum, shareOf, hasPathway}
 use Rattle.sum_rules.proofs.Runs.{runSum, next-sum}
-use Rattle.sums.specs.Plan.{runningOf, Shared}
+use Rattle.shares.specs.Plan.{runningOf, Shared}
 use Rattle.sums.specs.State.{SideReady}
 
 -- the terms of a side in a direction, and their sum

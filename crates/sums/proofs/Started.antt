@@ -12,10 +12,10 @@ use Rattle.inputs.specs.declared.Scenario.{Scenario}
 use Rattle.inputs.specs.declared.Contaminant.{Contaminant}
 use Rattle.inputs.specs.Rules.{scenarioFits, lacksFactor}
 use Rattle.inputs.proofs.Tests.{and-split}
-use Rattle.sums.specs.declared.shares.Plan.{Plan}
+use Rattle.shares.specs.declared.Plan.{Plan}
 use Rattle.sum_rules.specs.Share.{start}
 use Rattle.sum_rules.specs.ListCall.{firstRefusal, refused, walk, sumsOf}
-use Rattle.sums.specs.Plan.{Begun, PlanFits}
+use Rattle.shares.specs.Plan.{Begun, PlanFits}
 use Rattle.sums.specs.State.{steps, answerFrom, Room, Good, firstOf}
 use Rattle.sum_rules.proofs.Runs.{first-passed}
 use Rattle.sum_rules.proofs.InRange.{fair-start}

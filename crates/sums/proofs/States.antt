@@ -19,21 +19,12 @@ use Rattle.inputs.specs.Rules.{oneOrTwo, scenarioFits, contaminantFits, OneOrTw
 use Rattle.inputs.proofs.Tests.{and-split, one-or-two}
 use Rattle.terms.proofs.StandsLaws.{stands-most}
 use Rattle.terms.proofs.NumberValues.{zero-stands}
-use Rattle.sums.specs.declared.shares.Plan.{Plan}
+use Rattle.shares.specs.declared.Plan.{Plan}
 use Rattle.sums.specs.declared.State.{State}
 use Rattle.sum_rules.specs.Share.{hasPathway}
 use Rattle.sum_rules.specs.ListCall.{refused}
-use Rattle.sums.specs.Plan.{runningOf, noRuns}
+use Rattle.shares.specs.Plan.{runningOf, noRuns}
 use Rattle.sums.specs.State.{steps, answerFrom, RunsReady, Good, Stepped, refuseOf}
-
--- ---- zero decimals keep their rule
-pub blank-valid : allValid (scenarioDecimals blank) ≡ true
-unfolding validOf
-blank-valid = refl
-
--- ---- the scenario and the medium that passed
-pub fits-parts : (s : Scenario) (medium : ℕ) → scenarioFits s medium ≡ true → (allValid (scenarioDecimals s) ≡ true) × OneOrTwo medium
-fits-parts s medium h = let a = and-split (oneOrTwo medium) _ h in (a .1, one-or-two medium (a .0))
 
 -- ---- sums of nothing
 pub none-ready : RunsReady 633 noRuns

@@ -20,18 +20,16 @@ use Rattle.terms.proofs.StandsLaws.{stands-own}
 use Rattle.terms.proofs.SameValues.{values-same}
 use Rattle.guideline_rules.proofs.Accepted.{Accepted, accepted-inputs}
 use Rattle.guideline.proofs.Steps.{sides}
-use Rattle.sums.specs.declared.shares.Plan.{Plan}
-use Rattle.sums.specs.declared.shares.Worked.{Worked}
-use Rattle.sums.specs.declared.shares.SideRun.{SideRun}
-use Rattle.sums.specs.declared.shares.Runs.{Runs}
+use Rattle.shares.specs.declared.Plan.{Plan}
+use Rattle.shares.specs.declared.Worked.{Worked}
+use Rattle.shares.specs.declared.SideRun.{SideRun}
+use Rattle.shares.specs.declared.Runs.{Runs}
 use Rattle.sums.specs.declared.State.{State}
 use Rattle.sum_rules.specs.Share.{Running, next, hasPathway}
-use Rattle.sums.specs.Plan.{Workable, WorkedFor, runningOf, RunSize, Addable, Added}
+use Rattle.shares.specs.Plan.{Workable, WorkedFor, runningOf, RunSize, Addable, Added}
+use Rattle.shares.proofs.Plans.{inputs-of}
 use Rattle.sums.specs.State.{steps, answerFrom, SideReady, RunsReady, Stepped, movedOf, Advancing, NextRuns}
 use Rattle.sums.proofs.NextSums.{SideTerms, next-ready, next-is}
-
-pub inputs-of : {p : Plan} {r : Contaminant} → Workable p r → Accepted (p .scenario) (p .medium) r
-inputs-of {p} {r} h = accepted-inputs (p .scenario) (p .medium) r (h .passed .fits) (h .passed .known) (h .contaminant)
 
 -- the sum of a side's upper terms
 abbrev pub UpperSum : Side → Number → Type 0

@@ -15,16 +15,16 @@ use Rattle.inputs.specs.declared.Scenario.{Scenario}
 use Rattle.inputs.specs.declared.Contaminant.{Contaminant}
 use Rattle.inputs.specs.Rules.{contaminantFits, mostContaminants}
 use Rattle.terms.specs.Stands.{Stands}
-use Rattle.sums.specs.declared.shares.Plan.{Plan}
-use Rattle.sums.specs.declared.shares.SideRun.{SideRun}
-use Rattle.sums.specs.declared.shares.Runs.{Runs}
+use Rattle.shares.specs.declared.Plan.{Plan}
+use Rattle.shares.specs.declared.SideRun.{SideRun}
+use Rattle.shares.specs.declared.Runs.{Runs}
 use Rattle.sums.specs.declared.State.{State}
 use Rattle.sum_rules.specs.declared.SideSums.{SideSums}
 use Rattle.sum_rules.specs.declared.SumsAnswer.{SumsAnswer}
 use Rattle.sum_rules.specs.Verdict.{verdictOf}
 use Rattle.sum_rules.specs.Share.{Running, next, hasPathway}
 use Rattle.sum_rules.specs.ListCall.{refused, accepted}
-use Rattle.sums.specs.Plan.{PlanReady, PlanFits, noRuns, runningOf}
+use Rattle.shares.specs.Plan.{PlanReady, PlanFits, noRuns, runningOf}
 
 -- the records one by one without condition 9, which cannot hold (proofs/InRange.antt)
 unfoldable pub steps : Scenario → ℕ → List Contaminant → ℕ → ℕ → Running → Running → SumsAnswer

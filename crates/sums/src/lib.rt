@@ -1,9 +1,4 @@
 // Sums of risk and hazard over a list of contaminants, and the verdict of each side.
-pub mod shares;
-
-use crate::shares::Plan;
-use crate::shares::Runs;
-use crate::shares::SideRun;
 use decimal::Decimal;
 use inputs::Contaminant;
 use inputs::MOST_CONTAMINANTS;
@@ -13,6 +8,9 @@ use outcome::accepted;
 use presence::has_pathway;
 use rounding::Direction;
 use rounding::Number;
+use shares::Plan;
+use shares::Runs;
+use shares::SideRun;
 use sum_rules::SideSums;
 use sum_rules::SumsAnswer;
 use sum_rules::Verdict;
@@ -24,7 +22,7 @@ ghost use Rattle.inputs.specs.Rules.{mostContaminants};
 ghost use Rattle.sum_rules.specs.Verdict.{verdictNumber, verdictOf};
 ghost use Rattle.sum_rules.specs.ListCall.{refused as refusedOf};
 ghost use Rattle.decimal.specs.Decimal.{decimalOf};
-ghost use Rattle.sums.specs.Plan.{PlanReady, noRuns};
+ghost use Rattle.shares.specs.Plan.{PlanReady, noRuns};
 ghost use Rattle.sums.specs.State.{Good, Stepped, answerFrom, firstOf, refuseOf, movedOf, Advancing, Comparable, SideReady, RunsReady, sideSumsOf, reportedOf};
 
 // The state of the list call between two records: the place of the next record and the id before it; a refusal and its

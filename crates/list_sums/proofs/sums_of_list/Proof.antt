@@ -54,27 +54,27 @@ use denote.Exit.{yes}
 use Rattle.inputs.specs.declared.Scenario.{Scenario}
 use Rattle.inputs.specs.declared.Contaminant.{Contaminant}
 use Rattle.inputs.specs.BuiltIn.{noContaminant}
-use Rattle.sums.specs.declared.shares.Plan.{Plan}
+use Rattle.shares.specs.declared.Plan.{Plan}
 use Rattle.sums.specs.declared.State.{State}
 use Rattle.sum_rules.specs.declared.SumsAnswer.{SumsAnswer}
 use Rattle.sum_rules.specs.ListCall.{sumsOf}
-use Rattle.sums.specs.Plan.{Begun}
+use Rattle.shares.specs.Plan.{Begun}
 use Rattle.sums.specs.State.{Good, Room, Stepped, answerFrom, firstOf}
 use Rattle.sums.proofs.Started.{started-good, started-room, started-answer}
 use Rattle.inputs.proofs.Scenario as Z
 use Rattle.inputs.proofs.Scenario.Laws as Z′
 use Rattle.inputs.proofs.Contaminant as T
 use Rattle.inputs.proofs.Contaminant.Laws as T′
-use Rattle.sums.proofs.shares.Plan as P
-use Rattle.sums.proofs.shares.Plan.Laws as P′
+use Rattle.shares.proofs.Plan as P
+use Rattle.shares.proofs.Plan.Laws as P′
 use Rattle.sums.proofs.State as S
 use Rattle.sums.proofs.State.Laws as S′
 use Rattle.sum_rules.proofs.SumsAnswer as R
 use Rattle.sum_rules.proofs.SumsAnswer.Laws as R′
-use Rattle.sums.proofs.shares.begin as begin
-use Rattle.sums.proofs.shares.begin.Symbol as begin-def
-use Rattle.sums.proofs.shares.begin.Symbol.{name as #sums·shares·begin}
-use Rattle.sums.proofs.shares.begin.Met as begin-thm
+use Rattle.shares.proofs.begin as begin
+use Rattle.shares.proofs.begin.Symbol as begin-def
+use Rattle.shares.proofs.begin.Symbol.{name as #shares·begin}
+use Rattle.shares.proofs.begin.Met as begin-thm
 use Rattle.sums.proofs.first as start
 use Rattle.sums.proofs.first.Symbol as start-def
 use Rattle.sums.proofs.first.Symbol.{name as #sums·first}
@@ -176,7 +176,7 @@ module _ {M : Type 1} (𝓤 : URA M) (H : Heap 𝓤) (A : Atoms 𝓤) (T : Ended
 
 -- what is known of the four callees: each meets its contract
 record Known {M : Type 1} (𝓤 : URA M) (H : Heap 𝓤) (A : Atoms 𝓤) (mem : Memory → SProp 𝓤) (run : Routine → Fun 𝓤) (C : Calls 𝓤 H) : Type 1 where
-  pub begins : Triple 𝓤 (C #sums·shares·begin) (Callee 𝓤 H A begin.ended (begin.clauses 𝓤 H A mem run))
+  pub begins : Triple 𝓤 (C #shares·begin) (Callee 𝓤 H A begin.ended (begin.clauses 𝓤 H A mem run))
   pub starts : Triple 𝓤 (C #sums·first) (Callee 𝓤 H A start.ended (start.clauses 𝓤 H A mem run))
   pub steps : Triple 𝓤 (C #sums·step) (Callee 𝓤 H A step.ended (step.clauses 𝓤 H A mem run))
   pub finishes : Triple 𝓤 (C #sums·finish) (Callee 𝓤 H A finish.ended (finish.clauses 𝓤 H A mem run))
@@ -365,7 +365,7 @@ sums-of-list-spec 𝓤 H 𝓜 𝓖 𝓡 =
     (tables 𝓤 H 𝓜 𝓡 code.env .C) (tables 𝓤 H 𝓜 𝓡 code.env .Λ) #list_sums·sums_of_list code.function (code.unfolded 𝓤 H 𝓜 𝓡)
     (sums-of-list-meets 𝓤 H (𝓖 .A) (givenOf 𝓤 H 𝓜 𝓖) (𝓜 .mem) (𝓡 .run) (tablesOf 𝓤 H 𝓜 (tables 𝓤 H 𝓜 𝓡 code.env))
     (record {
-      begins = cited 𝓤 H (Callee 𝓤 H (𝓖 .A) begin.ended (begin.clauses 𝓤 H (𝓖 .A) (𝓜 .mem) (𝓡 .run))) 𝓜 𝓡 code.env #sums·shares·begin begin-def.routine code.calls-sums·shares·begin (begin-thm.met 𝓤 H 𝓜 𝓖 𝓡);
+      begins = cited 𝓤 H (Callee 𝓤 H (𝓖 .A) begin.ended (begin.clauses 𝓤 H (𝓖 .A) (𝓜 .mem) (𝓡 .run))) 𝓜 𝓡 code.env #shares·begin begin-def.routine code.calls-shares·begin (begin-thm.met 𝓤 H 𝓜 𝓖 𝓡);
       starts = cited 𝓤 H (Callee 𝓤 H (𝓖 .A) start.ended (start.clauses 𝓤 H (𝓖 .A) (𝓜 .mem) (𝓡 .run))) 𝓜 𝓡 code.env #sums·first start-def.routine code.calls-sums·first (start-thm.met 𝓤 H 𝓜 𝓖 𝓡);
       steps = cited 𝓤 H (Callee 𝓤 H (𝓖 .A) step.ended (step.clauses 𝓤 H (𝓖 .A) (𝓜 .mem) (𝓡 .run))) 𝓜 𝓡 code.env #sums·step step-def.routine code.calls-sums·step (step-thm.met 𝓤 H 𝓜 𝓖 𝓡);
       finishes = cited 𝓤 H (Callee 𝓤 H (𝓖 .A) finish.ended (finish.clauses 𝓤 H (𝓖 .A) (𝓜 .mem) (𝓡 .run))) 𝓜 𝓡 code.env #sums·finish finish-def.routine code.calls-sums·finish (finish-thm.met 𝓤 H 𝓜 𝓖 𝓡);

@@ -14,7 +14,7 @@ use Rattle.sums.proofs.Comparisons.{runs-comparable}
 use Rattle.site_rules.specs.Results.{resultsTo}
 use Rattle.site_rules.proofs.OutputBlocks.{results-long}
 use Rattle.site.proofs.Output.{summary-lent}
-use Rattle.sums.specs.declared.shares.Plan.{Plan}
+use Rattle.shares.specs.declared.Plan.{Plan}
 use Rattle.sum_rules.specs.declared.SideSums.{SideSums}
 use borrow.Author.Needs.{needs}
 use Rattle.site.proofs.put_results.Statement.{statement}

@@ -19,7 +19,7 @@ ghost use Rattle.inputs.specs.Rules.{OneOrTwo};
 ghost use Rattle.terms.specs.Side.{TotalSize};
 ghost use Rattle.terms.specs.Stands.{Input};
 ghost use Rattle.sum_rules.specs.ListCall.{firstRefusal};
-ghost use Rattle.sums.specs.Plan.{Planned, Begun, Workable, WorkedFor, RunSize, Shared, Addable, Added};
+ghost use Rattle.shares.specs.Plan.{Planned, Begun, Workable, WorkedFor, RunSize, Shared, Addable, Added};
 
 // The most contaminants of a list, as a length.
 const MOST: usize = inputs::MOST_CONTAMINANTS as usize;

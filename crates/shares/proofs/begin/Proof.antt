@@ -1,4 +1,4 @@
--- `sums::shares::begin` meets its contract. Assumes nothing.
+-- `shares::begin` meets its contract. Assumes nothing.
 use mathlib.Core.Path.{_≡_, sym, ap, _∙_, refl}
 use mathlib.Core.Bool.{_&&_}
 use mathlib.Core.Logic.{inl}
@@ -7,10 +7,10 @@ use borrow.Author.Tests.{eqb-true, eqb-false}
 use Rattle.outcome.specs.Outcome.{numberOf}
 use Rattle.inputs.specs.Rules.{scenarioFits, lacksFactor}
 use Rattle.sum_rules.proofs.Runs.{first-passed}
-use Rattle.sums.proofs.States.{blank-valid, fits-parts}
+use Rattle.shares.proofs.Plans.{blank-valid, fits-parts}
 use borrow.Author.Needs.{needs}
-use Rattle.sums.proofs.shares.begin.Statement.{statement}
-use Rattle.sums.proofs.shares.begin.Tie as tie
+use Rattle.shares.proofs.begin.Statement.{statement}
+use Rattle.shares.proofs.begin.Tie as tie
 
 first-refusal-requires : tie.Need-first-refusal-requires
 first-refusal-requires c κs = search needs

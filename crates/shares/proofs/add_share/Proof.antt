@@ -1,10 +1,10 @@
--- `sums::shares::add_share` meets its contract. Assumes nothing.
+-- `shares::add_share` meets its contract. Assumes nothing.
 use mathlib.Core.Path.{ap, _∙_}
 use Rattle.rounding.specs.declared.Direction.the-variants.{Down, Up}
 use Rattle.rounding.specs.Operations.{sumOf}
 use borrow.Author.Needs.{needs}
-use Rattle.sums.proofs.shares.add_share.Statement.{statement}
-use Rattle.sums.proofs.shares.add_share.Tie as tie
+use Rattle.shares.proofs.add_share.Statement.{statement}
+use Rattle.shares.proofs.add_share.Tie as tie
 
 mul-requires : tie.Need-mul-requires
 mul-requires c κs = search needs

@@ -1,4 +1,4 @@
--- `sums::shares::planned` meets its contract. Assumes nothing.
+-- `shares::planned` meets its contract. Assumes nothing.
 use mathlib.Core.Path.{refl, sym, subst}
 use Rattle.rounding.specs.declared.Direction.the-variants.{Down, Up}
 use Rattle.terms.specs.declared.numbers.Factors.{Factors}
@@ -6,8 +6,8 @@ use Rattle.terms.specs.Stands.{FactorsFor}
 use Rattle.terms.specs.Prepared.{PreparedFor}
 use Rattle.terms.proofs.SameValues.{factors-ready}
 use borrow.Author.Needs.{needs}
-use Rattle.sums.proofs.shares.planned.Statement.{statement}
-use Rattle.sums.proofs.shares.planned.Tie as tie
+use Rattle.shares.proofs.planned.Statement.{statement}
+use Rattle.shares.proofs.planned.Tie as tie
 
 scenario-numbers-requires : tie.Need-scenario-numbers-requires
 scenario-numbers-requires c κs = search needs

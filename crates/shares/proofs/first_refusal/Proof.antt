@@ -1,11 +1,11 @@
--- `sums::shares::first_refusal` meets its contract. Assumes nothing.
+-- `shares::first_refusal` meets its contract. Assumes nothing.
 use mathlib.Core.Path.{sym, ap, _∙_}
 use mathlib.Core.Bool.{not}
 use native.Mathlib.Omega.{arith}
 use borrow.Author.Tests.{le-leb, lt-leb, not-true, not-false}
 use borrow.Author.Needs.{needs}
-use Rattle.sums.proofs.shares.first_refusal.Statement.{statement}
-use Rattle.sums.proofs.shares.first_refusal.Tie as tie
+use Rattle.shares.proofs.first_refusal.Statement.{statement}
+use Rattle.shares.proofs.first_refusal.Tie as tie
 
 returns : tie.Need-returns
 returns c = rw (c .if1 .taken)

@@ -1,7 +1,7 @@
--- `sums::shares::add_shares` meets its contract. Assumes nothing.
+-- `shares::add_shares` meets its contract. Assumes nothing.
 use borrow.Author.Needs.{needs}
-use Rattle.sums.proofs.shares.add_shares.Statement.{statement}
-use Rattle.sums.proofs.shares.add_shares.Tie as tie
+use Rattle.shares.proofs.add_shares.Statement.{statement}
+use Rattle.shares.proofs.add_shares.Tie as tie
 
 add-share-requires : tie.Need-add-share-requires
 add-share-requires c κs = ((c .pre .c, c .pre .risk-run), (c .pre .risk-lower, c .pre .risk-upper))

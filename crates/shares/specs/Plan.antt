@@ -21,10 +21,10 @@ use Rattle.terms.specs.declared.pathways.Terms.{Terms}
 use Rattle.terms.specs.Stands.{FactorsFor, ToxicityFor, Input}
 use Rattle.terms.specs.Prepared.{PreparedFor}
 use Rattle.terms.specs.Side.{TermsFor, TotalSize}
-use Rattle.sums.specs.declared.shares.Plan.{Plan}
-use Rattle.sums.specs.declared.shares.Worked.{Worked}
-use Rattle.sums.specs.declared.shares.SideRun.{SideRun}
-use Rattle.sums.specs.declared.shares.Runs.{Runs}
+use Rattle.shares.specs.declared.Plan.{Plan}
+use Rattle.shares.specs.declared.Worked.{Worked}
+use Rattle.shares.specs.declared.SideRun.{SideRun}
+use Rattle.shares.specs.declared.Runs.{Runs}
 use Rattle.sum_rules.specs.Share.{Running}
 use Rattle.sum_rules.specs.ListCall.{firstRefusal}
 

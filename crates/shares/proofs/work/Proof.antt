@@ -1,10 +1,10 @@
--- `sums::shares::work` meets its contract. Assumes nothing.
+-- `shares::work` meets its contract. Assumes nothing.
 use mathlib.Core.Path.{refl}
 use Rattle.terms.proofs.SameValues.{ready}
-use Rattle.sums.proofs.Steps.{inputs-of}
+use Rattle.shares.proofs.Plans.{inputs-of}
 use borrow.Author.Needs.{needs}
-use Rattle.sums.proofs.shares.work.Statement.{statement}
-use Rattle.sums.proofs.shares.work.Tie as tie
+use Rattle.shares.proofs.work.Statement.{statement}
+use Rattle.shares.proofs.work.Tie as tie
 
 contaminant-numbers-requires : tie.Need-contaminant-numbers-requires
 contaminant-numbers-requires c κs = inputs-of (c .pre) .contaminant
