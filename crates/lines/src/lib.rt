@@ -1,13 +1,11 @@
 // The lines of the listing, put into lent bytes. Each function gives the place after what it put, and asks for a round
 // number of bytes that is never used up. A place on the way is named after what is put there.
-mod spelt;
-
-use crate::spelt::mark_of;
-use crate::spelt::put_side;
-use crate::spelt::put_verdict;
-use crate::spelt::put_word;
 use decimal::Decimal;
 use guideline_rules::SideGuidelines;
+use spelling::mark_of;
+use spelling::put_side;
+use spelling::put_verdict;
+use spelling::put_word;
 use sum_rules::SideSums;
 use text::put_byte;
 use text::put_decimal;

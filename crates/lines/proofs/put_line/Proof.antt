@@ -1,4 +1,4 @@
--- `listing::lines::put_line` meets its contract. Assumes nothing.
+-- `lines::put_line` meets its contract. Assumes nothing.
 use mathlib.Core.List.{[], _∷_}
 use native.Mathlib.Omega.{arith}
 use Rattle.text.specs.Numbers.{numberText}
@@ -6,7 +6,7 @@ use Rattle.text.proofs.Numbers.{number-most}
 use Rattle.text.proofs.Decimals.{decimal-short}
 use Rattle.listing_rules.specs.Lines.{sideWord, spaced, lineOf}
 use Rattle.listing_rules.proofs.Lengths.{side-most}
-use Rattle.lines.proofs.Chains.{begun, then, then-both, all}
+use Rattle.spelling.proofs.Chains.{begun, then, then-both, all}
 use borrow.Author.Needs.{needs}
 use Rattle.lines.proofs.put_line.Statement.{statement}
 use Rattle.lines.proofs.put_line.Tie as tie

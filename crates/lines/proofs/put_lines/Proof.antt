@@ -1,9 +1,9 @@
--- `listing::lines::put_lines` meets its contract. Assumes nothing.
+-- `lines::put_lines` meets its contract. Assumes nothing.
 use native.Mathlib.Omega.{arith}
 use Rattle.listing_rules.specs.Lines.{lineOf}
 use Rattle.listing_rules.proofs.Lengths.{line-most}
 use Rattle.lines.proofs.LineParts.{one-line, two-lines}
-use Rattle.lines.proofs.Chains.{begun, then, all, put-same}
+use Rattle.spelling.proofs.Chains.{begun, then, all, put-same}
 use borrow.Author.Needs.{needs}
 use Rattle.lines.proofs.put_lines.Statement.{statement}
 use Rattle.lines.proofs.put_lines.Tie as tie

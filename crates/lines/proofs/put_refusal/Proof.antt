@@ -1,10 +1,10 @@
--- `listing::lines::put_refusal` meets its contract. Assumes nothing.
+-- `lines::put_refusal` meets its contract. Assumes nothing.
 use mathlib.Core.List.{[], _∷_}
 use native.Mathlib.Omega.{arith}
 use Rattle.text.specs.Numbers.{numberText}
 use Rattle.text.proofs.Numbers.{number-most}
 use Rattle.listing_rules.specs.Lines.{refusalLine}
-use Rattle.lines.proofs.Chains.{begun, then, all}
+use Rattle.spelling.proofs.Chains.{begun, then, all}
 use borrow.Author.Needs.{needs}
 use Rattle.lines.proofs.put_refusal.Statement.{statement}
 use Rattle.lines.proofs.put_refusal.Tie as tie

@@ -1,4 +1,4 @@
--- `listing::lines::put_spaced` meets its contract. Assumes nothing.
+-- `lines::put_spaced` meets its contract. Assumes nothing.
 use mathlib.Core.List.{[], _∷_}
 use native.Mathlib.Omega.{arith}
 use Rattle.text.proofs.Puts.{put-next}

@@ -1,11 +1,11 @@
--- `listing::lines::put_sums` meets its contract. Assumes nothing.
+-- `lines::put_sums` meets its contract. Assumes nothing.
 use mathlib.Core.List.{[], _∷_}
 use native.Mathlib.Omega.{arith}
 use Rattle.text.proofs.Decimals.{decimal-short}
 use Rattle.listing_rules.specs.Lines.{sideWord, verdictWord, spaced}
 use Rattle.listing_rules.proofs.Lengths.{side-most, verdict-most}
 use Rattle.lines.proofs.LineParts.{sum-line}
-use Rattle.lines.proofs.Chains.{begun, then, then-both, all, put-same}
+use Rattle.spelling.proofs.Chains.{begun, then, then-both, all, put-same}
 use borrow.Author.Needs.{needs}
 use Rattle.lines.proofs.put_sums.Statement.{statement}
 use Rattle.lines.proofs.put_sums.Tie as tie

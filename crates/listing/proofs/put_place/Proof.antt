@@ -1,6 +1,6 @@
 -- `listing::put_place` meets its contract. Assumes nothing.
 use Rattle.listing.proofs.BlockLines.{block-lines}
-use Rattle.lines.proofs.Chains.{put-same}
+use Rattle.spelling.proofs.Chains.{put-same}
 use borrow.Author.Needs.{needs}
 use Rattle.listing.proofs.put_place.Statement.{statement}
 use Rattle.listing.proofs.put_place.Tie as tie

@@ -1,13 +1,13 @@
--- `listing::spelt::put_verdict` meets its contract. Assumes nothing.
+-- `spelling::put_verdict` meets its contract. Assumes nothing.
 use mathlib.Core.Path.{sym, ap}
 use native.Mathlib.Nat.{add-zero}
 use native.Mathlib.Omega.{arith}
 use Rattle.words.proofs.Written.{placed-none}
 use Rattle.listing_rules.specs.Lines.{verdictWord}
-use Rattle.lines.proofs.Chains.{put-same}
+use Rattle.spelling.proofs.Chains.{put-same}
 use borrow.Author.Needs.{needs}
-use Rattle.lines.proofs.spelt.put_verdict.Statement.{statement}
-use Rattle.lines.proofs.spelt.put_verdict.Tie as tie
+use Rattle.spelling.proofs.put_verdict.Statement.{statement}
+use Rattle.spelling.proofs.put_verdict.Tie as tie
 
 enum-told : tie.Need-enum-told
 enum-told c = search needs

@@ -1,9 +1,9 @@
--- `listing::spelt::put_side` meets its contract. Assumes nothing.
-use Rattle.lines.proofs.Spelling.{risk-word, hazard-word}
-use Rattle.lines.proofs.Chains.{put-same}
+-- `spelling::put_side` meets its contract. Assumes nothing.
+use Rattle.spelling.proofs.Spelling.{risk-word, hazard-word}
+use Rattle.spelling.proofs.Chains.{put-same}
 use borrow.Author.Needs.{needs}
-use Rattle.lines.proofs.spelt.put_side.Statement.{statement}
-use Rattle.lines.proofs.spelt.put_side.Tie as tie
+use Rattle.spelling.proofs.put_side.Statement.{statement}
+use Rattle.spelling.proofs.put_side.Tie as tie
 
 slice-aggregate-put-word : tie.Need-slice-aggregate-put-word
 slice-aggregate-put-word c = search needs

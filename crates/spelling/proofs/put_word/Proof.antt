@@ -1,13 +1,13 @@
--- `listing::spelt::put_word` meets its contract. Assumes nothing.
+-- `spelling::put_word` meets its contract. Assumes nothing.
 use Prim.Native.Nat.{_-_, _≤_}
 use mathlib.Core.Path.{_≡_}
 use native.Mathlib.Omega.{arith}
 use lib.ListN.{length, take}
 use Rattle.words.specs.Bytes.{placed}
-use Rattle.lines.proofs.Spelling.{word-none, word-long, word-next, word-all}
+use Rattle.spelling.proofs.Spelling.{word-none, word-long, word-next, word-all}
 use borrow.Author.Needs.{needs}
-use Rattle.lines.proofs.spelt.put_word.Statement.{statement}
-use Rattle.lines.proofs.spelt.put_word.Tie as tie
+use Rattle.spelling.proofs.put_word.Statement.{statement}
+use Rattle.spelling.proofs.put_word.Tie as tie
 
 abbrev Inv-loop : tie.InvT-loop
 Inv-loop out₀ at word i₀ out i = (i ≤ length word) × (out ≡ placed out₀ at (take i word))
