@@ -1,11 +1,11 @@
--- `call_cases::read_records` is safe and ends: the measure is how many records are left. Assumes nothing.
+-- `call_records::read_records` is safe and ends: the measure is how many records are left. Assumes nothing.
 use Prim.Native.Nat.{_≤_, _-_}
 use mathlib.Core.Path.{_≡_}
 use native.Mathlib.Omega.{arith}
 use lib.ListN.{length, length-set}
 use borrow.Author.Needs.{needs}
-use Rattle.call_cases.proofs.read_records.Statement.{statement}
-use Rattle.call_cases.proofs.read_records.Tie as tie
+use Rattle.call_records.proofs.read_records.Statement.{statement}
+use Rattle.call_records.proofs.read_records.Tie as tie
 
 abbrev Inv-loop : tie.InvT-loop
 Inv-loop n list₀ i₀ list i = (i ≤ n) × (length list ≡ 121)

@@ -1,4 +1,4 @@
--- `call_cases::sums_of_first` meets its contract: a walk of its MIR, by hand, since a slice of structs is not covered. Assumes nothing.
+-- `call_records::sums_of_first` meets its contract: a walk of its MIR, by hand, since a slice of structs is not covered. Assumes nothing.
 -- The array is copied into a local, a lifetime begins, the first n elements are lent to the list call, the lifetime ends, and the local is room again.
 use mathlib.Core.Path.{_≡_, refl, sym}
 use Prim.Native.Nat.{ℕ, _≤_, _<_, _^_}
@@ -52,11 +52,11 @@ use Rattle.list_sums.proofs.sums_of_list as list
 use Rattle.list_sums.proofs.sums_of_list.Symbol as list-def
 use Rattle.list_sums.proofs.sums_of_list.Symbol.{name as #list_sums·sums_of_list}
 use Rattle.list_sums.proofs.sums_of_list.Met as list-thm
-use Rattle.call_cases.proofs.Lending.{Callee, calls-lent, lent-pre, in-memory, Slice, Kept, lent-slice, lends-first, first-back}
-use Rattle.call_cases.proofs.sums_of_first.Key.{name as #call_cases·sums_of_first}
-use Rattle.call_cases.proofs.sums_of_first as f
-use Rattle.call_cases.proofs.sums_of_first.Statement as stated
-use Rattle.call_cases.proofs.sums_of_first.Code as code
+use Rattle.call_records.proofs.Lending.{Callee, calls-lent, lent-pre, in-memory, Slice, Kept, lent-slice, lends-first, first-back}
+use Rattle.call_records.proofs.sums_of_first.Key.{name as #call_records·sums_of_first}
+use Rattle.call_records.proofs.sums_of_first as f
+use Rattle.call_records.proofs.sums_of_first.Statement as stated
+use Rattle.call_records.proofs.sums_of_first.Code as code
 
 -- the type of the array
 abbrev Rows : RattleType
@@ -184,7 +184,7 @@ pub sums-of-first-spec : {M : Type 1} → stated.statement M
 unfolding code.routine tablesOf
 sums-of-first-spec 𝓤 H 𝓜 𝓖 𝓡 =
     entered 𝓤 H (tripleOf 𝓤 H (𝓖 .A) f.signature (f.spec 𝓤 H (𝓖 .A) (𝓜 .mem) (𝓡 .run)))
-    (tables 𝓤 H 𝓜 𝓡 code.env .C) (tables 𝓤 H 𝓜 𝓡 code.env .Λ) #call_cases·sums_of_first code.function (code.unfolded 𝓤 H 𝓜 𝓡)
+    (tables 𝓤 H 𝓜 𝓡 code.env .C) (tables 𝓤 H 𝓜 𝓡 code.env .Λ) #call_records·sums_of_first code.function (code.unfolded 𝓤 H 𝓜 𝓡)
     (sums-of-first-meets 𝓤 H (𝓖 .A) (givenOf 𝓤 H 𝓜 𝓖) (𝓜 .mem) (𝓡 .run) (tablesOf 𝓤 H 𝓜 (tables 𝓤 H 𝓜 𝓡 code.env))
     (cited 𝓤 H (Callee 𝓤 H (𝓖 .A) list.ended (list.clauses 𝓤 H (𝓖 .A) (𝓜 .mem) (𝓡 .run))) 𝓜 𝓡 code.env
     #list_sums·sums_of_list list-def.routine code.calls-list-sums·sums-of-list (list-thm.met 𝓤 H 𝓜 𝓖 𝓡)))
