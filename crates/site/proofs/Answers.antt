@@ -18,7 +18,8 @@ use Rattle.sum_rules.proofs.InRange.{fair-start}
 use Rattle.outcome.specs.declared.Answer.{Answer}
 use Rattle.site_rules.specs.Site.{walkBlocks, withRoom, siteAnswer}
 use Rattle.site_rules.specs.Results.{resultsOf, siteLeft, recordsFrom, allSums, recordAt}
-use Rattle.site.specs.Check.{checkBlocks, Checking, blocksOf}
+use Rattle.site.specs.Check.{checkBlocks, Checking}
+use Rattle.result_blocks.specs.Writing.{blocksOf}
 use Rattle.site_rules.specs.Passed.{Opened, RecordOk}
 use Rattle.site.proofs.Walks.{answerOf, walk-checked}
 use Rattle.site_rules.proofs.Passed.{walk-ok}

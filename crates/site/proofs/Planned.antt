@@ -21,7 +21,8 @@ use Rattle.sums.proofs.Started.{plan-fits}
 use Rattle.outcome.specs.declared.Answer.{Answer}
 use Rattle.site_rules.specs.Site.{siteAnswer}
 use Rattle.site_rules.specs.Results.{resultsTo, siteLeft, recordsFrom, allSums}
-use Rattle.site.specs.Check.{checkBlocks, Writing, blocksOf}
+use Rattle.site.specs.Check.{checkBlocks}
+use Rattle.result_blocks.specs.Writing.{Writing, blocksOf}
 use Rattle.site_rules.specs.Passed.{Opened}
 use Rattle.site_rules.proofs.OutputBlocks.{results-long}
 use Rattle.site.proofs.Answers.{checking, checked-records, answer-sums, left-accepted}

@@ -1,4 +1,4 @@
--- One turn of the checking walk and of the writing walk: what is left from this place on stays the same. Assumes nothing.
+-- One turn of the checking walk: what is left from this place on stays the same. Assumes nothing.
 use mathlib.Core.Path.{_≡_, ap, _∙_}
 use mathlib.Core.Bool.{Bool, true, false, cond, _||_}
 use mathlib.Core.List.{List}
@@ -12,14 +12,12 @@ use Rattle.inputs.specs.declared.Contaminant.{Contaminant}
 use Rattle.block_rules.specs.declared.ContaminantRead.{ContaminantRead}
 use Rattle.block_rules.specs.declared.ContaminantRead.the-variants as C
 use Rattle.block_rules.specs.Reading.{contaminantRead}
-use Rattle.sum_rules.specs.Share.{Running, next, runAll, hasPathway}
+use Rattle.sum_rules.specs.Share.{hasPathway}
 use Rattle.outcome.specs.declared.Answer.{Answer}
 use Rattle.site_rules.specs.Site.{blockAt}
-use Rattle.site_rules.specs.Results.{recordAt, recordsFrom}
 use Rattle.site.specs.Check.{afterRead, checkBlocks}
 
 module _ (s : Scenario) (medium : ℕ) (site : List ℕ) where
-  -- ---- the checking walk
   module _ (n k before : ℕ) (l : k < n) where
     abbrev found : Contaminant → Answer
     found r = cond (hasPathway s medium r 0 || hasPathway s medium r 1) (checkBlocks s medium site (n - (k + 1)) (k + 1 + 1) (r .id)) (answer Pathway (k + 1))
@@ -51,16 +49,3 @@ module _ (s : Scenario) (medium : ℕ) (site : List ℕ) where
   check-none n k before l =
       let e : n - k ≡ 0 = omega arith in
       ap (λ (j : ℕ). checkBlocks s medium site j (k + 1) before) e
-
-  -- ---- the writing walk: the sums of a side over the records that are left
-  pub run-turn : (side n k : ℕ) (t : Running) → k < n → runAll s medium side t (recordsFrom site (n - k) (k + 1)) ≡ runAll s medium side (next s medium side t (recordAt site (k + 1))) (recordsFrom site (n - (k + 1)) (k + 1 + 1))
-  unfolding recordsFrom
-  run-turn side n k t l =
-      let e : n - k ≡ suc (n - (k + 1)) = omega arith in
-      ap (λ (j : ℕ). runAll s medium side t (recordsFrom site j (k + 1))) e
-
-  pub run-none : (side n k : ℕ) (t : Running) → n ≤ k → runAll s medium side t (recordsFrom site (n - k) (k + 1)) ≡ t
-  unfolding recordsFrom
-  run-none side n k t l =
-      let e : n - k ≡ 0 = omega arith in
-      ap (λ (j : ℕ). runAll s medium side t (recordsFrom site j (k + 1))) e

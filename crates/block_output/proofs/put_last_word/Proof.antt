@@ -1,13 +1,13 @@
--- `writers::put_last_word` meets its contract. Assumes nothing.
+-- `block_output::put_last_word` meets its contract. Assumes nothing.
 use mathlib.Core.Path.{ap, _∙_}
 use Prim.Native.Nat.{ℕ, _-_, _%_}
 use native.Mathlib.Omega.{arith}
 use Rattle.words.specs.Bytes.{placed, le4}
 use Rattle.block_rules.specs.Layouts.{lastWord}
-use Rattle.writers.proofs.Blocks.{negate}
+use Rattle.block_output.proofs.Blocks.{negate}
 use borrow.Author.Needs.{needs}
-use Rattle.writers.proofs.put_last_word.Statement.{statement}
-use Rattle.writers.proofs.put_last_word.Tie as tie
+use Rattle.block_output.proofs.put_last_word.Statement.{statement}
+use Rattle.block_output.proofs.put_last_word.Tie as tie
 
 sum-requires : tie.Need-sum-requires
 sum-requires c κs = search needs

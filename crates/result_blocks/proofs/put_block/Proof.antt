@@ -1,4 +1,4 @@
--- `site::put_block` meets its contract. Assumes nothing.
+-- `result_blocks::put_block` meets its contract. Assumes nothing.
 use mathlib.Core.Path.{_≡_, ap, ap₂, subst, _∙_}
 use mathlib.Core.List.{List}
 use Prim.Native.Nat.{ℕ, _+_, _*_, _-_}
@@ -12,10 +12,10 @@ use Rattle.words.proofs.Written.{over-length}
 use Rattle.block_rules.specs.Layouts.{resultBlock}
 use Rattle.block_rules.proofs.ResultsBack.{result-length}
 use Rattle.sums.specs.State.{NextRuns}
-use Rattle.site.proofs.OneBlock.{read-is, read-ok, block-is, block-wide, risk-printable, hazard-printable, guideline-is, shares-fit, one-more}
+use Rattle.result_blocks.proofs.OneBlock.{read-is, read-ok, block-is, block-wide, risk-printable, hazard-printable, guideline-is, shares-fit, one-more}
 use borrow.Author.Needs.{needs}
-use Rattle.site.proofs.put_block.Statement.{statement}
-use Rattle.site.proofs.put_block.Tie as tie
+use Rattle.result_blocks.proofs.put_block.Statement.{statement}
+use Rattle.result_blocks.proofs.put_block.Tie as tie
 
 mul-at : tie.Need-mul-at
 mul-at c = omega (arith, c .before .before .pre .0 .most)

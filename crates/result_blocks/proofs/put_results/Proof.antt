@@ -1,4 +1,4 @@
--- `site::put_results` meets its contract. Assumes nothing.
+-- `result_blocks::put_results` meets its contract. Assumes nothing.
 use mathlib.Core.Path.{_≡_, ap, ap₂, _∙_}
 use mathlib.Core.List.{List, _++_}
 use Prim.Native.Nat.{ℕ, _+_, _*_, _≤_}
@@ -13,12 +13,12 @@ use Rattle.sum_rules.specs.ListCall.{accepted}
 use Rattle.sums.proofs.Comparisons.{runs-comparable}
 use Rattle.site_rules.specs.Results.{resultsTo}
 use Rattle.site_rules.proofs.OutputBlocks.{results-long}
-use Rattle.site.proofs.Output.{summary-lent}
+use Rattle.result_blocks.proofs.Output.{summary-lent}
 use Rattle.shares.specs.declared.Plan.{Plan}
 use Rattle.sum_rules.specs.declared.SideSums.{SideSums}
 use borrow.Author.Needs.{needs}
-use Rattle.site.proofs.put_results.Statement.{statement}
-use Rattle.site.proofs.put_results.Tie as tie
+use Rattle.result_blocks.proofs.put_results.Statement.{statement}
+use Rattle.result_blocks.proofs.put_results.Tie as tie
 
 -- the output after the result blocks, and after the summary
 module _ (p : Plan) (site : List ℕ) (count : ℕ) (d : List ℕ) {out : List ℕ} (was : out ≡ over (take 512 d ++ resultsTo (p .scenario) (p .medium) site count) d) (room : 512 * count + 512 ≤ length d) where

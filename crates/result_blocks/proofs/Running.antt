@@ -11,8 +11,8 @@ use Rattle.sums.specs.State.{RunsReady}
 use Rattle.sums.proofs.States.{none-ready}
 use Rattle.site_rules.specs.Results.{recordAt, recordsFrom}
 use Rattle.sums.specs.State.{NextRuns}
-use Rattle.site.specs.Check.{AllAdded}
-use Rattle.site.proofs.Turns.{run-turn, run-none}
+use Rattle.result_blocks.specs.Writing.{AllAdded}
+use Rattle.result_blocks.proofs.Turns.{run-turn, run-none}
 
 -- the sums x after the first k records
 pub record Along (p : Plan) (site : List ℕ) (count k : ℕ) (x : Runs) : Type 0 where

@@ -1,4 +1,4 @@
--- `writers::put_summary` meets its contract. Assumes nothing.
+-- `block_output::put_summary` meets its contract. Assumes nothing.
 use mathlib.Core.Path.{_≡_, sym, ap, _∙_}
 use mathlib.Core.List.{List, _++_, append-assoc}
 use Prim.Native.Nat.{ℕ, _+_}
@@ -12,10 +12,10 @@ use Rattle.decimal.specs.declared.Decimal.{Decimal}
 use Rattle.sum_rules.specs.Verdict.{verdictNumber}
 use Rattle.block_rules.specs.Layouts.{firstWords, bodyOf, summaryBlock, summaryDecimals}
 use Rattle.block_rules.proofs.Lengths.{firstWords-length}
-use Rattle.writers.proofs.Blocks.{wrote-block}
+use Rattle.block_output.proofs.Blocks.{wrote-block}
 use borrow.Author.Needs.{needs}
-use Rattle.writers.proofs.put_summary.Statement.{statement}
-use Rattle.writers.proofs.put_summary.Tie as tie
+use Rattle.block_output.proofs.put_summary.Statement.{statement}
+use Rattle.block_output.proofs.put_summary.Tie as tie
 
 put-first-words-requires : tie.Need-put-first-words-requires
 put-first-words-requires c κs = search needs

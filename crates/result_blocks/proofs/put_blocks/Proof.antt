@@ -1,4 +1,4 @@
--- `site::put_blocks` meets its contract. Assumes nothing.
+-- `result_blocks::put_blocks` meets its contract. Assumes nothing.
 use mathlib.Core.Path.{_≡_, refl, ap, _∙_}
 use mathlib.Core.List.{[], _++_}
 use Prim.Native.Nat.{ℕ, _+_, _*_, _-_}
@@ -9,11 +9,11 @@ use Rattle.words.specs.Bytes.{over}
 use Rattle.words.proofs.Written.{over-length}
 use Rattle.site_rules.specs.Results.{resultsTo}
 use Rattle.site_rules.proofs.OutputBlocks.{results-long}
-use Rattle.site.proofs.Output.{none-written, out-long, block-lent}
-use Rattle.site.proofs.Running.{Along, along-first, along-next, along-last}
+use Rattle.result_blocks.proofs.Output.{none-written, out-long, block-lent}
+use Rattle.result_blocks.proofs.Running.{Along, along-first, along-next, along-last}
 use borrow.Author.Needs.{needs}
-use Rattle.site.proofs.put_blocks.Statement.{statement}
-use Rattle.site.proofs.put_blocks.Tie as tie
+use Rattle.result_blocks.proofs.put_blocks.Statement.{statement}
+use Rattle.result_blocks.proofs.put_blocks.Tie as tie
 
 abbrev Inv-loop : tie.InvT-loop
 Inv-loop site p count out₀ x₀ k₀ out x k = Along p site count k x × (out ≡ over (take 512 out₀ ++ resultsTo (p .scenario) (p .medium) site k) out₀)

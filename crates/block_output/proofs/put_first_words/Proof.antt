@@ -1,12 +1,12 @@
--- `writers::put_first_words` meets its contract. Assumes nothing.
+-- `block_output::put_first_words` meets its contract. Assumes nothing.
 use native.Mathlib.Omega.{arith}
 use Rattle.words.specs.Bytes.{le4}
 use Rattle.words.proofs.Words.{le4-length}
 use Rattle.words.proofs.Written.{Placed, placed-next}
 use Rattle.block_rules.specs.Layouts.{firstWords}
 use borrow.Author.Needs.{needs}
-use Rattle.writers.proofs.put_first_words.Statement.{statement}
-use Rattle.writers.proofs.put_first_words.Tie as tie
+use Rattle.block_output.proofs.put_first_words.Statement.{statement}
+use Rattle.block_output.proofs.put_first_words.Tie as tie
 
 put-requires : tie.Need-put-requires
 put-requires c κs = search needs
