@@ -1,10 +1,10 @@
--- `call_cases::run_writer` is safe: the output is a part of its buffer. Assumes nothing.
+-- `writer_calls::run_writer` is safe: the output is a part of its buffer. Assumes nothing.
 use mathlib.Core.Path.{sym}
 use native.Mathlib.Omega.{arith}
 use lib.ListN.{length-take}
 use lib.Seq.{length-take-le}
-use Rattle.call_cases.proofs.run_writer.Statement.{statement}
-use Rattle.call_cases.proofs.run_writer.Tie as tie
+use Rattle.writer_calls.proofs.run_writer.Statement.{statement}
+use Rattle.writer_calls.proofs.run_writer.Tie as tie
 
 returns : tie.Need-returns
 returns c = tt
