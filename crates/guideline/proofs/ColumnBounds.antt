@@ -20,10 +20,10 @@ use Rattle.decimal.proofs.Laws.{decimal-zero, decimal-nine}
 use Rattle.terms.specs.declared.pathways.Side.{Side}
 use Rattle.formulas.specs.Formula.{Formula, none}
 use Rattle.formulas.specs.Term.{termOf, totalOf}
-use Rattle.terms.specs.Stands.{Stands}
+use Rattle.factors.specs.Stands.{Stands}
 use Rattle.terms.specs.Side.{Wide, WideSide, TotalSize}
 use Rattle.decimal.proofs.Value.{skip-first, skip-next, Inside, value-inside}
-use Rattle.terms.proofs.StandsLaws.{stands-value, stands-is, stands-add, stands-div}
+use Rattle.factors.proofs.StandsLaws.{stands-value, stands-is, stands-add, stands-div}
 use Rattle.formulas.proofs.Sound.{three-places}
 use Rattle.guideline.specs.declared.Column.{Column}
 use Rattle.guideline.specs.Column.{ColumnFor, rangedOf, columnRanged, PrintableColumn, columnDecimals}

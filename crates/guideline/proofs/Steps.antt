@@ -11,15 +11,15 @@ use Rattle.decimal.specs.declared.Decimal.{Decimal}
 use Rattle.outcome.specs.declared.Refusal.the-variants.{Pathway}
 use Rattle.inputs.specs.declared.Scenario.{Scenario}
 use Rattle.inputs.specs.declared.Contaminant.{Contaminant}
-use Rattle.terms.specs.declared.numbers.Factors.{Factors}
-use Rattle.terms.specs.declared.numbers.Toxicity.{Toxicity}
-use Rattle.terms.specs.declared.prepared.Prepared.{Prepared}
+use Rattle.factors.specs.declared.numbers.Factors.{Factors}
+use Rattle.factors.specs.declared.numbers.Toxicity.{Toxicity}
+use Rattle.factors.specs.declared.prepared.Prepared.{Prepared}
 use Rattle.terms.specs.declared.pathways.Side.{Side}
 use Rattle.terms.specs.declared.pathways.Terms.{Terms}
 use Rattle.formulas.specs.Formula.{Formula, TR, THI, pathwaysOf, derived}
 use Rattle.formulas.specs.Term.{look, inputsOf, valuesOf}
-use Rattle.terms.specs.Stands.{Stands, FactorsFor, ToxicityFor}
-use Rattle.terms.specs.Prepared.{PreparedFor}
+use Rattle.factors.specs.Stands.{Stands, FactorsFor, ToxicityFor}
+use Rattle.factors.specs.Prepared.{PreparedFor}
 use Rattle.terms.specs.Side.{numberValues, SideFor, TermsFor, Wide, WideSide}
 use Rattle.formulas.proofs.Sound.{table-sound, three-pathways}
 use Rattle.terms.proofs.SameValues.{values-same}

@@ -140,9 +140,9 @@ fn worked_out(s: Scenario, medium: u32, r: Contaminant) -> GuidelineAnswer
     requires { ⌜ Accepted s medium r ⌝ }
     ensures { λ g. ⌜ g ≡ workedOut (valuesOf Up (inputsOf s r)) (pathwaysOf medium (r .class) 0) (pathwaysOf medium (r .class) 1) ⌝ }
 {
-    let f = terms::numbers::scenario_numbers(s);
-    let p = terms::prepared::prepare(f, Direction::Up);
-    let t = terms::numbers::contaminant_numbers(r);
+    let f = factors::numbers::scenario_numbers(s);
+    let p = factors::prepared::prepare(f, Direction::Up);
+    let t = factors::numbers::contaminant_numbers(r);
     let side = terms::pathways::terms_of(p, t, medium, r.class, Direction::Up);
     let columns = columns_of(f.tr, f.thi, side);
     let risk = columns.risk;

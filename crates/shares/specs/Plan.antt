@@ -15,11 +15,11 @@ use Rattle.inputs.specs.declared.Contaminant.{Contaminant}
 use Rattle.inputs.specs.Inputs.{scenarioDecimals}
 use Rattle.inputs.specs.Valid.{allValid}
 use Rattle.inputs.specs.Rules.{scenarioFits, lacksFactor, contaminantFits, OneOrTwo}
-use Rattle.terms.specs.declared.numbers.Toxicity.{Toxicity}
+use Rattle.factors.specs.declared.numbers.Toxicity.{Toxicity}
 use Rattle.terms.specs.declared.pathways.Side.{Side}
 use Rattle.terms.specs.declared.pathways.Terms.{Terms}
-use Rattle.terms.specs.Stands.{FactorsFor, ToxicityFor, Input}
-use Rattle.terms.specs.Prepared.{PreparedFor}
+use Rattle.factors.specs.Stands.{FactorsFor, ToxicityFor, Input}
+use Rattle.factors.specs.Prepared.{PreparedFor}
 use Rattle.terms.specs.Side.{TermsFor, TotalSize}
 use Rattle.shares.specs.declared.Plan.{Plan}
 use Rattle.shares.specs.declared.Worked.{Worked}

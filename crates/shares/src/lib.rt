@@ -1,4 +1,5 @@
 // What one record adds to the running sums of both sides, from what a scenario in a medium gives once to every record.
+use factors::prepared::Prepared;
 use inputs::Contaminant;
 use inputs::Scenario;
 use inputs::lacks_factor;
@@ -10,14 +11,13 @@ use rounding::Direction;
 use rounding::Number;
 use terms::pathways::Terms;
 use terms::pathways::total;
-use terms::prepared::Prepared;
 ghost use mathlib.Core.Path.{_≡_};
 ghost use mathlib.Core.Bool.{true};
 ghost use Rattle.inputs.specs.Inputs.{scenarioDecimals};
 ghost use Rattle.inputs.specs.Valid.{allValid};
 ghost use Rattle.inputs.specs.Rules.{OneOrTwo};
 ghost use Rattle.terms.specs.Side.{TotalSize};
-ghost use Rattle.terms.specs.Stands.{Input};
+ghost use Rattle.factors.specs.Stands.{Input};
 ghost use Rattle.sum_rules.specs.ListCall.{firstRefusal};
 ghost use Rattle.shares.specs.Plan.{Planned, Begun, Workable, WorkedFor, RunSize, Shared, Addable, Added};
 
@@ -79,12 +79,12 @@ fn planned(s: Scenario, medium: u32, refusal: Refusal) -> Plan
     requires { ⌜ (allValid (scenarioDecimals s) ≡ true) × OneOrTwo medium ⌝ }
     ensures { λ p. ⌜ Planned s medium refusal p ⌝ }
 {
-    let f = terms::numbers::scenario_numbers(s);
+    let f = factors::numbers::scenario_numbers(s);
     Plan {
         scenario: s,
         medium,
-        up: terms::prepared::prepare(f, Direction::Up),
-        down: terms::prepared::prepare(f, Direction::Down),
+        up: factors::prepared::prepare(f, Direction::Up),
+        down: factors::prepared::prepare(f, Direction::Down),
         refusal,
     }
 }
@@ -105,7 +105,7 @@ pub fn work(p: Plan, r: Contaminant) -> Worked
     requires { ⌜ Workable p r ⌝ }
     ensures { λ w. ⌜ WorkedFor p r w ⌝ }
 {
-    let x = terms::numbers::contaminant_numbers(r);
+    let x = factors::numbers::contaminant_numbers(r);
     let above = terms::pathways::terms_of(p.up, x, p.medium, r.class, Direction::Up);
     let below = terms::pathways::terms_of(p.down, x, p.medium, r.class, Direction::Down);
     let c = x.c;

@@ -14,8 +14,8 @@ use Rattle.inputs.specs.declared.Contaminant.{Contaminant}
 use Rattle.terms.specs.declared.pathways.Side.{Side}
 use Rattle.formulas.specs.Formula.{pathwaysOf}
 use Rattle.formulas.specs.Term.{inputsOf, valuesOf}
-use Rattle.terms.specs.Stands.{Stands}
-use Rattle.terms.proofs.StandsLaws.{stands-own, stands-is, stands-mul, stands-add}
+use Rattle.factors.specs.Stands.{Stands}
+use Rattle.factors.proofs.StandsLaws.{stands-own, stands-is, stands-mul, stands-add}
 use Rattle.formulas.proofs.Sound.{table-sound, three-pathways}
 use Rattle.guideline_rules.proofs.Accepted.{Accepted, values-of}
 use Rattle.guideline.proofs.ColumnBounds.{SideStands, sum-stands, stands-zero}

@@ -15,8 +15,8 @@ use Rattle.inputs.specs.declared.Scenario.{Scenario}
 use Rattle.inputs.specs.declared.Contaminant.{Contaminant}
 use Rattle.terms.specs.declared.pathways.Side.{Side}
 use Rattle.terms.specs.Side.{TotalSize}
-use Rattle.terms.specs.Stands.{Stands, Input}
-use Rattle.terms.proofs.StandsLaws.{stands-own}
+use Rattle.factors.specs.Stands.{Stands, Input}
+use Rattle.factors.proofs.StandsLaws.{stands-own}
 use Rattle.terms.proofs.SameValues.{values-same}
 use Rattle.guideline_rules.proofs.Accepted.{Accepted, accepted-inputs}
 use Rattle.guideline.proofs.Steps.{sides}

@@ -14,7 +14,7 @@ use Rattle.outcome.specs.Outcome.{numberOf}
 use Rattle.inputs.specs.declared.Scenario.{Scenario}
 use Rattle.inputs.specs.declared.Contaminant.{Contaminant}
 use Rattle.inputs.specs.Rules.{contaminantFits, mostContaminants}
-use Rattle.terms.specs.Stands.{Stands}
+use Rattle.factors.specs.Stands.{Stands}
 use Rattle.shares.specs.declared.Plan.{Plan}
 use Rattle.shares.specs.declared.SideRun.{SideRun}
 use Rattle.shares.specs.declared.Runs.{Runs}

@@ -1,4 +1,2 @@
-pub mod StandsLaws
-pub mod Constants
 pub mod NumberValues
 pub mod SameValues

@@ -15,20 +15,20 @@ use Rattle.rounding.specs.Operations.{productOf, quotientOf, sumOf}
 use Rattle.decimal.specs.declared.Decimal.{Decimal}
 use Rattle.decimal.specs.Decimal.{zeroOf, decimalOf, mulOf, divOf, addOf, workingOf}
 use Rattle.decimal.specs.Lists.{summed}
-use Rattle.terms.specs.declared.numbers.Factors.{Factors}
-use Rattle.terms.specs.declared.numbers.Toxicity.{Toxicity}
-use Rattle.terms.specs.declared.prepared.Prepared.{Prepared}
+use Rattle.factors.specs.declared.numbers.Factors.{Factors}
+use Rattle.factors.specs.declared.numbers.Toxicity.{Toxicity}
+use Rattle.factors.specs.declared.prepared.Prepared.{Prepared}
 use Rattle.terms.specs.declared.pathways.Side.{Side}
 use Rattle.terms.specs.declared.pathways.Terms.{Terms}
 use Rattle.formulas.specs.Formula.{_÷_, none, B, One, VF, PEF, table, pathwaysOf, derived}
 use Rattle.formulas.specs.Term.{look, constants, presentOf, evaluated, termOf, totalOf}
-use Rattle.terms.specs.Stands.{Stands, ReadyFactors, ReadyToxicity}
-use Rattle.terms.specs.Prepared.{unit}
+use Rattle.factors.specs.Stands.{Stands, ReadyFactors, ReadyToxicity}
+use Rattle.factors.specs.Prepared.{unit}
 use Rattle.terms.specs.Side.{factorDecimals, toxicityDecimals, numberInputs, numberValues, Ready, SideFor, TermsFor, noSide}
 use Rattle.decimal.proofs.Value.{Value, skip-first, skip-next, value-most}
-use Rattle.terms.proofs.StandsLaws.{stands-value, stands-most, stands-is, stands-div, stands-add, stands-mul3}
+use Rattle.factors.proofs.StandsLaws.{stands-value, stands-most, stands-is, stands-div, stands-add, stands-mul3}
 use Rattle.decimal.proofs.Value.Value.{absent}
-use Rattle.terms.proofs.Constants.{unit-stands, millionth-stands, thousandth-stands, half-stands, hours-stands, days-stands}
+use Rattle.factors.proofs.Constants.{unit-stands, millionth-stands, thousandth-stands, half-stands, hours-stands, days-stands}
 use Rattle.formulas.proofs.Sound.{widthOf, table-sound, sound-at, none-sound}
 use Rattle.formulas.proofs.Presence.{term-evaluated}
 

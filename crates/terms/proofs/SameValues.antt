@@ -8,15 +8,15 @@ use Rattle.decimal.specs.Decimal.{zeroOf, workingOf}
 use Rattle.inputs.specs.declared.Scenario.{Scenario}
 use Rattle.inputs.specs.declared.Contaminant.{Contaminant}
 use Rattle.inputs.specs.Inputs.{scenarioDecimals, contaminantDecimals}
-use Rattle.terms.specs.declared.numbers.Factors.{Factors}
-use Rattle.terms.specs.declared.numbers.Toxicity.{Toxicity}
-use Rattle.terms.specs.declared.prepared.Prepared.{Prepared}
+use Rattle.factors.specs.declared.numbers.Factors.{Factors}
+use Rattle.factors.specs.declared.numbers.Toxicity.{Toxicity}
+use Rattle.factors.specs.declared.prepared.Prepared.{Prepared}
 use Rattle.formulas.specs.Formula.{Formula, derived}
 use Rattle.formulas.specs.Term.{constants, totalOf, inputsOf, valuesOf}
-use Rattle.terms.specs.Stands.{FactorsFor, ToxicityFor, ReadyFactors, ReadyToxicity}
-use Rattle.terms.specs.Prepared.{PreparedFor}
+use Rattle.factors.specs.Stands.{FactorsFor, ToxicityFor, ReadyFactors, ReadyToxicity}
+use Rattle.factors.specs.Prepared.{PreparedFor}
 use Rattle.terms.specs.Side.{factorDecimals, toxicityDecimals, numberValues, Ready}
-use Rattle.terms.proofs.StandsLaws.{stands-own}
+use Rattle.factors.proofs.StandsLaws.{stands-own}
 
 pub factors-ready : {s : Scenario} {f : Factors} → FactorsFor s f → ReadyFactors f
 factors-ready h = record { ef = stands-own (h .ef); ed = stands-own (h .ed); bw = stands-own (h .bw); at = stands-own (h .at); ir = stands-own (h .ir); ira = stands-own (h .ira); pef = stands-own (h .pef); et = stands-own (h .et); rf = stands-own (h .rf); sa = stands-own (h .sa); tr = stands-own (h .tr); thi = stands-own (h .thi) }

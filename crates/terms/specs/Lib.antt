@@ -1,3 +1,1 @@
-pub mod Stands
-pub mod Prepared
 pub mod Side

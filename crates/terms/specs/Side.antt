@@ -7,15 +7,15 @@ use Rattle.rounding.specs.declared.Direction.{Direction}
 use Rattle.rounding.specs.declared.Number.{Number}
 use Rattle.decimal.specs.declared.Decimal.{Decimal}
 use Rattle.decimal.specs.Decimal.{zeroOf, decimalOf, workingOf}
-use Rattle.terms.specs.declared.numbers.Factors.{Factors}
-use Rattle.terms.specs.declared.numbers.Toxicity.{Toxicity}
-use Rattle.terms.specs.declared.prepared.Prepared.{Prepared}
+use Rattle.factors.specs.declared.numbers.Factors.{Factors}
+use Rattle.factors.specs.declared.numbers.Toxicity.{Toxicity}
+use Rattle.factors.specs.declared.prepared.Prepared.{Prepared}
 use Rattle.terms.specs.declared.pathways.Side.{Side}
 use Rattle.terms.specs.declared.pathways.Terms.{Terms}
 use Rattle.formulas.specs.Formula.{Formula, B, none, pathwaysOf, derived}
 use Rattle.formulas.specs.Term.{look, constants, totalOf, termOf}
-use Rattle.terms.specs.Stands.{Stands, ReadyToxicity}
-use Rattle.terms.specs.Prepared.{PreparedFor}
+use Rattle.factors.specs.Stands.{Stands, ReadyToxicity}
+use Rattle.factors.specs.Prepared.{PreparedFor}
 
 abbrev pub factorDecimals : Factors → List Decimal
 factorDecimals f =

@@ -1,4 +1,2 @@
 // The terms of the specification: the risk or hazard that one unit of concentration brings by each pathway.
-pub mod numbers;
 pub mod pathways;
-pub mod prepared;

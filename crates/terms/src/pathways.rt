@@ -1,15 +1,15 @@
 // The terms of the three pathways on each side, for a chemical and for a radionuclide, in soil and in water. A term whose
 // pathway is absent is zero: a zero factor makes the product zero, and a zero divisor the quotient.
-use crate::numbers::Toxicity;
-use crate::prepared::DAYS;
-use crate::prepared::HALF;
-use crate::prepared::MILLIONTH;
-use crate::prepared::ONE;
-use crate::prepared::Prepared;
-use crate::prepared::THOUSANDTH;
-use crate::prepared::YEARS_PER_HOUR;
-use crate::prepared::opposite;
-use crate::prepared::product3;
+use factors::numbers::Toxicity;
+use factors::prepared::DAYS;
+use factors::prepared::HALF;
+use factors::prepared::MILLIONTH;
+use factors::prepared::ONE;
+use factors::prepared::Prepared;
+use factors::prepared::THOUSANDTH;
+use factors::prepared::YEARS_PER_HOUR;
+use factors::prepared::opposite;
+use factors::prepared::product3;
 use rounding::Direction;
 use rounding::Number;
 ghost use mathlib.Core.Path.{_≡_};

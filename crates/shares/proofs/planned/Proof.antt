@@ -1,9 +1,9 @@
 -- `shares::planned` meets its contract. Assumes nothing.
 use mathlib.Core.Path.{refl, sym, subst}
 use Rattle.rounding.specs.declared.Direction.the-variants.{Down, Up}
-use Rattle.terms.specs.declared.numbers.Factors.{Factors}
-use Rattle.terms.specs.Stands.{FactorsFor}
-use Rattle.terms.specs.Prepared.{PreparedFor}
+use Rattle.factors.specs.declared.numbers.Factors.{Factors}
+use Rattle.factors.specs.Stands.{FactorsFor}
+use Rattle.factors.specs.Prepared.{PreparedFor}
 use Rattle.terms.proofs.SameValues.{factors-ready}
 use borrow.Author.Needs.{needs}
 use Rattle.shares.proofs.planned.Statement.{statement}

@@ -1,6 +1,6 @@
 -- `sums::reported` meets its contract: the targets are the scenario's, in working form. Assumes nothing.
 use lib.Dec.{lit≤}
-use Rattle.terms.proofs.StandsLaws.{stands-most, stands-own}
+use Rattle.factors.proofs.StandsLaws.{stands-most, stands-own}
 use Rattle.sums.proofs.reported.Statement.{statement}
 use Rattle.sums.proofs.reported.Tie as tie
 

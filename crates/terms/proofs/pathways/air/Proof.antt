@@ -4,7 +4,7 @@ use Rattle.rounding.specs.declared.Number.{Number}
 use Rattle.rounding.specs.Operations.{sumOf}
 use Rattle.formulas.specs.Formula.{B}
 use Rattle.formulas.specs.Term.{look}
-use Rattle.terms.specs.Stands.{Stands}
+use Rattle.factors.specs.Stands.{Stands}
 use Rattle.terms.specs.Side.{numberValues}
 use Rattle.terms.proofs.NumberValues.{airNumber, air-stands}
 use borrow.Author.Needs.{needs}

@@ -2,7 +2,7 @@
 use lib.Dec.{lit≤}
 use Rattle.formulas.specs.Formula.{table, pathwaysOf, derived}
 use Rattle.terms.specs.Side.{numberValues}
-use Rattle.terms.proofs.StandsLaws.{stands-middle, stands-mul, stands-mul3, stands-operand}
+use Rattle.factors.proofs.StandsLaws.{stands-middle, stands-mul, stands-mul3, stands-operand}
 use Rattle.terms.proofs.NumberValues.{side-term, zero-stands}
 use Rattle.terms.proofs.pathways.water_radionuclide_risk.Statement.{statement}
 use Rattle.terms.proofs.pathways.water_radionuclide_risk.Tie as tie

@@ -1,11 +1,11 @@
--- `terms::prepared::product3` meets its contract. Assumes nothing.
+-- `factors::prepared::product3` meets its contract. Assumes nothing.
 use mathlib.Core.Path.{ap, _∙_}
 use native.Mathlib.Omega.{arith}
 use Rattle.rounding.specs.declared.Number.{Number}
 use Rattle.rounding.specs.Operations.{productOf}
 use borrow.Author.Needs.{needs}
-use Rattle.terms.proofs.prepared.product3.Statement.{statement}
-use Rattle.terms.proofs.prepared.product3.Tie as tie
+use Rattle.factors.proofs.prepared.product3.Statement.{statement}
+use Rattle.factors.proofs.prepared.product3.Tie as tie
 
 mul-requires : tie.Need-mul-requires
 mul-requires c κs = search needs

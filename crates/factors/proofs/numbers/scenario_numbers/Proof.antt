@@ -1,8 +1,8 @@
--- `terms::numbers::scenario_numbers` meets its contract. Assumes nothing.
+-- `factors::numbers::scenario_numbers` meets its contract. Assumes nothing.
 use Rattle.inputs.specs.Inputs.{scenarioDecimals}
 use Rattle.inputs.proofs.Tests.{valid-at}
-use Rattle.terms.proofs.numbers.scenario_numbers.Statement.{statement}
-use Rattle.terms.proofs.numbers.scenario_numbers.Tie as tie
+use Rattle.factors.proofs.numbers.scenario_numbers.Statement.{statement}
+use Rattle.factors.proofs.numbers.scenario_numbers.Tie as tie
 
 number-of-requires : tie.Need-number-of-requires
 number-of-requires c κs = valid-at (scenarioDecimals (c .args .s)) (c .pre) 0

@@ -8,8 +8,8 @@ use Rattle.decimal.specs.declared.Decimal.{Decimal}
 use Rattle.decimal.specs.Decimal.{decimalOf, workingOf}
 use Rattle.inputs.specs.declared.Scenario.{Scenario}
 use Rattle.inputs.specs.declared.Contaminant.{Contaminant}
-use Rattle.terms.specs.declared.numbers.Factors.{Factors}
-use Rattle.terms.specs.declared.numbers.Toxicity.{Toxicity}
+use Rattle.factors.specs.declared.numbers.Factors.{Factors}
+use Rattle.factors.specs.declared.numbers.Toxicity.{Toxicity}
 
 -- r is the decimal d, zero or of nine digits, its exponent within w of -8
 pub record Stands (w : ℕ) (r : Number) (d : Decimal) : Type 0 where

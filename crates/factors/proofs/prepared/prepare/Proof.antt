@@ -1,16 +1,16 @@
--- `terms::prepared::prepare` meets its contract. Assumes nothing.
+-- `factors::prepared::prepare` meets its contract. Assumes nothing.
 use mathlib.Core.Path.{_≡_, refl, subst}
 use lib.Dec.{lit≤}
 use Rattle.rounding.specs.declared.Direction.{Direction}
 use Rattle.decimal.specs.Decimal.{decimalOf}
 use Rattle.decimal.specs.Lists.{productOf}
-use Rattle.terms.specs.Stands.{Stands}
-use Rattle.terms.specs.Prepared.{days}
-use Rattle.terms.proofs.StandsLaws.{stands-mul, stands-mul3, stands-div}
-use Rattle.terms.proofs.Constants.{unit-stands, millionth-stands, half-stands, days-stands}
+use Rattle.factors.specs.Stands.{Stands}
+use Rattle.factors.specs.Prepared.{days}
+use Rattle.factors.proofs.StandsLaws.{stands-mul, stands-mul3, stands-div}
+use Rattle.factors.proofs.Constants.{unit-stands, millionth-stands, half-stands, days-stands}
 use borrow.Author.Needs.{needs}
-use Rattle.terms.proofs.prepared.prepare.Statement.{statement}
-use Rattle.terms.proofs.prepared.prepare.Tie as tie
+use Rattle.factors.proofs.prepared.prepare.Statement.{statement}
+use Rattle.factors.proofs.prepared.prepare.Tie as tie
 
 opposite-requires : tie.Need-opposite-requires
 opposite-requires c κs = search needs

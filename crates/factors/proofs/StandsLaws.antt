@@ -20,8 +20,8 @@ use Rattle.decimal.proofs.CoreOperations.{mul-core, div-core, add-core}
 use Rattle.decimal.proofs.Approximation.{Sized, sized-of}
 use Rattle.inputs.specs.Valid.{validOf}
 use Rattle.inputs.proofs.Tests.{valid-small}
-use Rattle.terms.specs.Stands.{Stands}
-use Rattle.terms.specs.Prepared.{Middle}
+use Rattle.factors.specs.Stands.{Stands}
+use Rattle.factors.specs.Prepared.{Middle}
 use Rattle.decimal.proofs.Value.{Value, absent, known}
 
 -- ---- what a number that stands for a decimal can be used for

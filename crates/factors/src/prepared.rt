@@ -7,8 +7,8 @@ use rounding::Number;
 ghost use mathlib.Core.Path.{_≡_};
 ghost use Rattle.rounding.specs.Direction.{opposite as oppositeOf};
 ghost use Rattle.rounding.specs.Operations.{productOf};
-ghost use Rattle.terms.specs.Stands.{ReadyFactors};
-ghost use Rattle.terms.specs.Prepared.{Middle, Product3, PreparedFor};
+ghost use Rattle.factors.specs.Stands.{ReadyFactors};
+ghost use Rattle.factors.specs.Prepared.{Middle, Product3, PreparedFor};
 
 // The constants 1, 10^-6, 10^-3, 0.5, 0.000114 and 365.
 pub const ONE: Number = Number {

@@ -1,9 +1,9 @@
--- `terms::numbers::contaminant_numbers` meets its contract. Assumes nothing.
+-- `factors::numbers::contaminant_numbers` meets its contract. Assumes nothing.
 use Rattle.inputs.specs.Inputs.{contaminantDecimals}
 use Rattle.inputs.proofs.Tests.{valid-at}
 use borrow.Author.Needs.{needs}
-use Rattle.terms.proofs.numbers.contaminant_numbers.Statement.{statement}
-use Rattle.terms.proofs.numbers.contaminant_numbers.Tie as tie
+use Rattle.factors.proofs.numbers.contaminant_numbers.Statement.{statement}
+use Rattle.factors.proofs.numbers.contaminant_numbers.Tie as tie
 
 number-of-requires : tie.Need-number-of-requires
 number-of-requires c κs = valid-at (contaminantDecimals (c .args .r)) (c .pre) 0

@@ -1,13 +1,13 @@
--- `terms::numbers::number_of` meets its contract. Assumes nothing.
+-- `factors::numbers::number_of` meets its contract. Assumes nothing.
 use mathlib.Core.Path.{ap, _∙_}
 use native.Mathlib.Omega.{arith}
 use Rattle.rounding.specs.WorkingForm.{nineOf}
 use Rattle.rounding.specs.declared.Number.{Number}
 use Rattle.inputs.proofs.Tests.{valid-small}
-use Rattle.terms.proofs.StandsLaws.{number-stands}
+use Rattle.factors.proofs.StandsLaws.{number-stands}
 use borrow.Author.Needs.{needs}
-use Rattle.terms.proofs.numbers.number_of.Statement.{statement}
-use Rattle.terms.proofs.numbers.number_of.Tie as tie
+use Rattle.factors.proofs.numbers.number_of.Statement.{statement}
+use Rattle.factors.proofs.numbers.number_of.Tie as tie
 
 biased-requires : tie.Need-biased-requires
 biased-requires c κs = search needs

@@ -10,9 +10,9 @@ use Rattle.decimal.specs.declared.Decimal.{Decimal}
 use Rattle.decimal.specs.Decimal.{decimalOf, divOf, workingOf}
 use Rattle.decimal.specs.Lists.{productOf}
 use mathlib.Core.Path.{_≡_}
-use Rattle.terms.specs.declared.numbers.Factors.{Factors}
-use Rattle.terms.specs.declared.prepared.Prepared.{Prepared}
-use Rattle.terms.specs.Stands.{Stands, ReadyFactors}
+use Rattle.factors.specs.declared.numbers.Factors.{Factors}
+use Rattle.factors.specs.declared.prepared.Prepared.{Prepared}
+use Rattle.factors.specs.Stands.{Stands, ReadyFactors}
 
 -- a number that can be multiplied twice and stay in range
 pub record Middle (r : Number) : Type 0 where

@@ -8,7 +8,7 @@ use Rattle.rounding.specs.declared.Number.{Number}
 use Rattle.rounding.specs.WorkingForm.{nineOf}
 use Rattle.decimal.specs.declared.Decimal.{Decimal}
 use Rattle.decimal.specs.Decimal.{workingOf}
-use Rattle.terms.specs.Stands.{Stands}
+use Rattle.factors.specs.Stands.{Stands}
 
 abbrev num : ℕ → ℕ → Number
 num m x = record { m = m; x = x }

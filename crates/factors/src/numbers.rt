@@ -8,7 +8,7 @@ ghost use mathlib.Core.Bool.{true};
 ghost use Rattle.decimal.specs.Decimal.{workingOf};
 ghost use Rattle.inputs.specs.Inputs.{scenarioDecimals, contaminantDecimals};
 ghost use Rattle.inputs.specs.Valid.{validOf, allValid};
-ghost use Rattle.terms.specs.Stands.{Stands, FactorsFor, ToxicityFor};
+ghost use Rattle.factors.specs.Stands.{Stands, FactorsFor, ToxicityFor};
 
 // The factors of a scenario.
 pub struct Factors {
