@@ -1,4 +1,4 @@
--- `sums::presence::all_three` meets its contract. Assumes nothing.
+-- `presence::all_three` meets its contract. Assumes nothing.
 use borrow.Author.Needs.{needs}
 use Rattle.presence.proofs.all_three.Statement.{statement}
 use Rattle.presence.proofs.all_three.Tie as tie

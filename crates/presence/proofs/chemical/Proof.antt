@@ -1,4 +1,4 @@
--- `sums::presence::chemical` meets its contract. Assumes nothing.
+-- `presence::chemical` meets its contract. Assumes nothing.
 use borrow.Author.Needs.{needs}
 use Rattle.presence.proofs.chemical.Statement.{statement}
 use Rattle.presence.proofs.chemical.Tie as tie

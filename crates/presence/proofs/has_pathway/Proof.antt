@@ -1,4 +1,4 @@
--- `sums::presence::has_pathway` meets its contract. Assumes nothing.
+-- `presence::has_pathway` meets its contract. Assumes nothing.
 use Rattle.inputs.proofs.Tests.{other-one, other-two}
 use Rattle.presence.proofs.KnownValues.{checked-inputs, pathway-is}
 use borrow.Author.Needs.{needs}

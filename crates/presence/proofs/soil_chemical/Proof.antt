@@ -1,4 +1,4 @@
--- `sums::presence::soil_chemical` meets its contract: it is what the table says. Assumes nothing.
+-- `presence::soil_chemical` meets its contract: it is what the table says. Assumes nothing.
 use Rattle.presence.proofs.KnownValues.{soil-chemical}
 use borrow.Author.Needs.{needs}
 use Rattle.presence.proofs.soil_chemical.Statement.{statement}

@@ -1,4 +1,4 @@
--- `sums::presence::soil_radionuclide` meets its contract: it is what the table says. Assumes nothing.
+-- `presence::soil_radionuclide` meets its contract: it is what the table says. Assumes nothing.
 use Rattle.presence.proofs.KnownValues.{soil-radionuclide}
 use borrow.Author.Needs.{needs}
 use Rattle.presence.proofs.soil_radionuclide.Statement.{statement}

@@ -1,4 +1,4 @@
--- `sums::presence::water_radionuclide` meets its contract: it is what the table says. Assumes nothing.
+-- `presence::water_radionuclide` meets its contract: it is what the table says. Assumes nothing.
 use Rattle.presence.proofs.KnownValues.{water-radionuclide}
 use borrow.Author.Needs.{needs}
 use Rattle.presence.proofs.water_radionuclide.Statement.{statement}
