@@ -1,6 +1,4 @@
 // The functions of the C library. Each takes numbers and lent bytes, and calls the proved function behind it.
-use block_rules::Header;
-use inputs::Scenario;
 use outcome::Refusal;
 use sum_rules::SumsAnswer;
 ghost use mathlib.Core.Path.{_≡_};
@@ -101,18 +99,6 @@ pub extern "C" fn gv_write_contaminant(out: &mut [u8], place: u32, contaminant: 
 pub extern "C" fn gv_write_built_in(out: &mut [u8], number: u32, medium: u32, count: u32) -> u32
     ensures { λ n. ⌜ (n ≡ numberOf (builtInSent (length (now (out .entry))) number medium count)) × (now (out .exit) ≡ builtInPut (now (out .entry)) number medium count) ⌝ }
 {
-    let b = Scenario::built_in(number);
-    let refusal = b.refusal;
-    let scenario = b.scenario;
-    if !outcome::accepted(refusal) {
-        return outcome::number(refusal);
-    }
-    let h = Header {
-        medium,
-        count,
-        scenario,
-    };
-    let a = writers::write_header(out, h);
-    let sent = a.refusal;
-    outcome::number(sent)
+    let refusal = writers::write_built_in(out, number, medium, count);
+    outcome::number(refusal)
 }

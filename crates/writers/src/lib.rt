@@ -2,11 +2,13 @@
 use block_rules::BLOCK_SIZE;
 use block_rules::Header;
 use inputs::Contaminant;
+use inputs::Scenario;
 use outcome::Answer;
 use outcome::Refusal;
 ghost use mathlib.Core.Path.{_≡_};
 ghost use lib.ListN.{length};
 ghost use Rattle.block_rules.specs.Answers.{headerFit, contaminantFit, headerRefusal, headerAnswer, headerLeft, contaminantRefusal, contaminantAnswer, contaminantLeft};
+ghost use Rattle.gv_rules.specs.Exports.{builtInSent, builtInPut};
 
 // Whether a header's count, medium and decimals keep their rule.
 fn header_fit(h: Header) -> bool
@@ -76,4 +78,23 @@ pub fn write_contaminant(out: &mut [u8], place: u32, r: Contaminant) -> Answer
     }
     block_output::put_contaminant(out, place, r);
     Answer { refusal, block: 0 }
+}
+
+// Writes the header block of a built-in scenario.
+pub fn write_built_in(out: &mut [u8], number: u32, medium: u32, count: u32) -> Refusal
+    ensures { λ r. ⌜ (r ≡ builtInSent (length (now (out .entry))) number medium count) × (now (out .exit) ≡ builtInPut (now (out .entry)) number medium count) ⌝ }
+{
+    let b = Scenario::built_in(number);
+    let refusal = b.refusal;
+    let scenario = b.scenario;
+    if !outcome::accepted(refusal) {
+        return refusal;
+    }
+    let h = Header {
+        medium,
+        count,
+        scenario,
+    };
+    let a = write_header(out, h);
+    a.refusal
 }
