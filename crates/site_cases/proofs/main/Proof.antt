@@ -1,5 +1,5 @@
 -- `site_cases::main` is safe and ends: the measure is the number of turns left. Assumes nothing.
-use borrow.Author.Needs.{needs}
+use native.Mathlib.Omega.{arith}
 use Rattle.site_cases.proofs.main.Statement.{statement}
 use Rattle.site_cases.proofs.main.Tie as tie
 
@@ -10,25 +10,25 @@ abbrev μ-loop : tie.MeasureT-loop
 μ-loop turns₀ turns = turns
 
 loop-holds : tie.Need-loop-holds Inv-loop μ-loop
-loop-holds c = search needs
+loop-holds c = tt
 
 next-case-requires : tie.Need-next-case-requires Inv-loop μ-loop
-next-case-requires c κs = search needs
+next-case-requires c κs = tt
 
 sub-turns : tie.Need-sub-turns Inv-loop μ-loop
-sub-turns c = search needs
+sub-turns c = omega arith
 
 loop-less : tie.Need-loop-less Inv-loop μ-loop
-loop-less c = search needs
+loop-less c = omega arith
 
 loop-again : tie.Need-loop-again Inv-loop μ-loop
-loop-again c = search needs
+loop-again c = tt
 
 returns : tie.Need-returns Inv-loop μ-loop
-returns c = search needs
+returns c = tt
 
 returns-2 : tie.Need-returns-2 Inv-loop μ-loop
-returns-2 c = search needs
+returns-2 c = tt
 
 pub main-spec : {M : Type 1} → statement M
 main-spec = tie.close (tie.spec Inv-loop μ-loop loop-holds next-case-requires sub-turns loop-less loop-again returns returns-2)

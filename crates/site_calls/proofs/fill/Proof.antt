@@ -1,11 +1,11 @@
--- `site_cases::fill` is safe and ends: the measure is how many bytes are left. Assumes nothing.
+-- `site_calls::fill` is safe and ends: the measure is how many bytes are left. Assumes nothing.
 use Prim.Native.Nat.{_≤_, _-_}
 use mathlib.Core.Path.{_≡_}
 use native.Mathlib.Omega.{arith}
 use lib.ListN.{length, length-set}
 use borrow.Author.Needs.{needs}
-use Rattle.site_cases.proofs.fill.Statement.{statement}
-use Rattle.site_cases.proofs.fill.Tie as tie
+use Rattle.site_calls.proofs.fill.Statement.{statement}
+use Rattle.site_calls.proofs.fill.Tie as tie
 
 abbrev Inv-loop : tie.InvT-loop
 Inv-loop out₀ i₀ out i = (i ≤ length out) × (length out ≡ length out₀)
@@ -32,7 +32,7 @@ same-length : tie.Need-same-length Inv-loop μ-loop
 same-length c = search needs
 
 returns : tie.Need-returns Inv-loop μ-loop
-returns c = search needs
+returns c = tt
 
 pub fill-spec : {M : Type 1} → statement M
 fill-spec = tie.close (tie.spec Inv-loop μ-loop loop-holds slice-write-out add-i loop-less loop-again same-length returns)
