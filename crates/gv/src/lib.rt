@@ -99,6 +99,7 @@ pub extern "C" fn gv_write_contaminant(out: &mut [u8], place: u32, contaminant: 
 pub extern "C" fn gv_write_built_in(out: &mut [u8], number: u32, medium: u32, count: u32) -> u32
     ensures { λ n. ⌜ (n ≡ numberOf (builtInSent (length (now (out .entry))) number medium count)) × (now (out .exit) ≡ builtInPut (now (out .entry)) number medium count) ⌝ }
 {
-    let refusal = writers::write_built_in(out, number, medium, count);
+    let a = writers::write_built_in(out, number, medium, count);
+    let refusal = a.refusal;
     outcome::number(refusal)
 }

@@ -7,6 +7,7 @@ use outcome::Answer;
 use outcome::Refusal;
 ghost use mathlib.Core.Path.{_≡_};
 ghost use lib.ListN.{length};
+ghost use Rattle.outcome.specs.Outcome.{answer};
 ghost use Rattle.block_rules.specs.Answers.{headerFit, contaminantFit, headerRefusal, headerAnswer, headerLeft, contaminantRefusal, contaminantAnswer, contaminantLeft};
 ghost use Rattle.gv_rules.specs.Exports.{builtInSent, builtInPut};
 
@@ -81,20 +82,19 @@ pub fn write_contaminant(out: &mut [u8], place: u32, r: Contaminant) -> Answer
 }
 
 // Writes the header block of a built-in scenario.
-pub fn write_built_in(out: &mut [u8], number: u32, medium: u32, count: u32) -> Refusal
-    ensures { λ r. ⌜ (r ≡ builtInSent (length (now (out .entry))) number medium count) × (now (out .exit) ≡ builtInPut (now (out .entry)) number medium count) ⌝ }
+pub fn write_built_in(out: &mut [u8], number: u32, medium: u32, count: u32) -> Answer
+    ensures { λ a. ⌜ (a ≡ answer (builtInSent (length (now (out .entry))) number medium count) 0) × (now (out .exit) ≡ builtInPut (now (out .entry)) number medium count) ⌝ }
 {
     let b = Scenario::built_in(number);
     let refusal = b.refusal;
     let scenario = b.scenario;
     if !outcome::accepted(refusal) {
-        return refusal;
+        return Answer { refusal, block: 0 };
     }
     let h = Header {
         medium,
         count,
         scenario,
     };
-    let a = write_header(out, h);
-    a.refusal
+    write_header(out, h)
 }

@@ -1,5 +1,6 @@
 -- `gv::gv_write_built_in` meets its contract. Assumes nothing.
 use mathlib.Core.Path.{ap, _∙_}
+use Rattle.outcome.specs.declared.Answer.{Answer}
 use Rattle.outcome.specs.Outcome.{numberOf}
 use borrow.Author.Needs.{needs}
 use Rattle.gv.proofs.gv_write_built_in.Statement.{statement}
@@ -17,7 +18,7 @@ same-length c = search needs
 returns : tie.Need-returns
 returns c =
     let w = c .before .before .before .write-built-in .ensures in
-    (c .number .ensures ∙ ap numberOf (w .0), w .1)
+    (c .number .ensures ∙ ap (λ (a : Answer). numberOf (a .refusal)) (w .0), w .1)
 
 pub gv-write-built-in-spec : {M : Type 1} → statement M
 gv-write-built-in-spec =

@@ -3,13 +3,12 @@ use mathlib.Core.Path.{_≡_, refl, sym, ap, _∙_}
 use lib.Dec.{eqb}
 use lib.ListN.{length}
 use borrow.Author.Tests.{not-true, not-false}
-use Rattle.outcome.specs.declared.Answer.{Answer}
-use Rattle.outcome.specs.Outcome.{numberOf}
+use Rattle.outcome.specs.Outcome.{numberOf, answer}
 use Rattle.inputs.specs.declared.BuiltIn.{BuiltIn}
 use Rattle.inputs.specs.declared.Scenario.{Scenario}
 use Rattle.inputs.specs.BuiltIn.{builtInOf}
 use Rattle.block_rules.specs.declared.Header.{Header}
-use Rattle.block_rules.specs.Answers.{headerRefusal, headerLeft, leftBy}
+use Rattle.block_rules.specs.Answers.{headerAnswer, headerLeft, leftBy}
 use Rattle.gv_rules.specs.Exports.{builtInSent, builtInPut}
 use borrow.Author.Needs.{needs}
 use Rattle.writers.proofs.write_built_in.Statement.{statement}
@@ -30,7 +29,7 @@ returns c =
     let n = found .before .before .args .number in
     let f : eqb (numberOf (builtInOf n .refusal)) 0 ≡ _ =
     ap (λ (b : BuiltIn). eqb (numberOf (b .refusal)) 0) (sym e) ∙ sym (accepted .accepted .ensures) ∙ not-true _ (c .if1 .taken) in
-    rw (f, f) (ap (λ (b : BuiltIn). b .refusal) e, refl)
+    rw (f, f) (ap (λ (b : BuiltIn). answer (b .refusal) 0) e, refl)
 
 write-header-requires : tie.Need-write-header-requires
 write-header-requires c κs = search needs
@@ -52,7 +51,7 @@ returns-2 c =
     let f : eqb (numberOf (builtInOf (a .number) .refusal)) 0 ≡ _ =
     ap (λ (b : BuiltIn). eqb (numberOf (b .refusal)) 0) (sym e) ∙ sym (accepted .accepted .ensures) ∙ not-false _ (kept .if1 .left) in
     rw f (
-      ap (λ (x : Answer). x .refusal) (w .0) ∙ ap (λ (b : BuiltIn). headerRefusal (length (a .out .now)) (header (b .scenario))) e,
+      w .0 ∙ ap (λ (b : BuiltIn). headerAnswer (length (a .out .now)) (header (b .scenario))) e,
       w .1 ∙ ap (λ (b : BuiltIn). headerLeft (a .out .now) (header (b .scenario))) e,
     )
 
