@@ -1,6 +1,5 @@
 // The functions of the C library. Each takes numbers and lent bytes, and calls the proved function behind it.
 use outcome::Refusal;
-use sum_rules::SumsAnswer;
 ghost use mathlib.Core.Path.{_≡_};
 ghost use lib.ListN.{length};
 ghost use Rattle.outcome.specs.Outcome.{numberOf};
@@ -8,38 +7,14 @@ ghost use Rattle.block_rules.specs.Answers.{headerRefusal, headerLeft, contamin
 ghost use Rattle.site_rules.specs.Site.{siteAnswer};
 ghost use Rattle.site_rules.specs.Results.{siteLeft};
 ghost use Rattle.listing_rules.specs.Listing.{textLength, textLeft};
-ghost use Rattle.gv_rules.specs.Exports.{wordOf, packed, headerFrom, contaminantFrom, guidelineSent, guidelineWord, guidelinePut, builtInSent, builtInPut};
-
-// The word of four numbers: a byte each where they are below 256.
-fn word_of(number: u32, block: u32, risk: u32, hazard: u32) -> u64
-    ensures { λ n. ⌜ n ≡ wordOf number block risk hazard ⌝ }
-{
-    number as u64 + 256 * (block as u64) + 65536 * (risk as u64) + 16777216 * (hazard as u64)
-}
-
-// The word of an answer of the site call.
-pub fn pack(a: SumsAnswer) -> u64
-    ensures { λ n. ⌜ n ≡ packed a ⌝ }
-{
-    let refusal = a.refusal;
-    let r = a.risk;
-    let h = a.hazard;
-    let risk = r.verdict;
-    let hazard = h.verdict;
-    word_of(
-        outcome::number(refusal),
-        a.block,
-        sums::verdict_number(risk),
-        sums::verdict_number(hazard),
-    )
-}
+ghost use Rattle.gv_rules.specs.Exports.{packed, headerFrom, contaminantFrom, guidelineSent, guidelineWord, guidelinePut, builtInSent, builtInPut};
 
 // Evaluates a site: see include/gv.h.
 #[no_mangle]
 pub extern "C" fn gv_site(site: &[u8], out: &mut [u8]) -> u64
     ensures { λ n. ⌜ (n ≡ packed (siteAnswer (now (site .entry)) (length (now (out .entry))))) × (now (out .exit) ≡ siteLeft (now (site .entry)) (now (out .entry))) ⌝ }
 {
-    pack(site::evaluate(site, out))
+    c_structs::pack(site::evaluate(site, out))
 }
 
 // Evaluates a site and lists it: see include/gv.h.
@@ -61,15 +36,15 @@ pub extern "C" fn gv_guideline(header: &[u8], contaminant: &[u8], out: &mut [u8]
     let a = one_contaminant::single(h, r);
     let refusal = a.refusal;
     if !outcome::accepted(refusal) {
-        return word_of(outcome::number(refusal), a.block, 0, 0);
+        return c_structs::word_of(outcome::number(refusal), a.block, 0, 0);
     }
     if out.len() < 64 {
-        return word_of(outcome::number(Refusal::Room), 0, 0, 0);
+        return c_structs::word_of(outcome::number(Refusal::Room), 0, 0, 0);
     }
     let risk = a.risk;
     let hazard = a.hazard;
     c_structs::put_guidelines(out, risk, hazard);
-    word_of(outcome::number(refusal), a.block, 0, 0)
+    c_structs::word_of(outcome::number(refusal), a.block, 0, 0)
 }
 
 // Writes a header block from a struct gv_header.

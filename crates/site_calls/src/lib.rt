@@ -15,7 +15,7 @@ fn fill(out: &mut [u8]) {
 // Prints a line: a word, a number, a line feed.
 fn print_answer(a: sum_rules::SumsAnswer) {
     io::write_all(STDOUT_FILENO, b"answer ");
-    io::print_hex(STDOUT_FILENO, gv::pack(a), 16);
+    io::print_hex(STDOUT_FILENO, c_structs::pack(a), 16);
     io::write_all(STDOUT_FILENO, b"\n");
 }
 

@@ -1,9 +1,9 @@
--- `gv::word_of` meets its contract. Assumes nothing.
+-- `c_structs::word_of` meets its contract. Assumes nothing.
 use mathlib.Core.Path.{refl}
 use Rattle.gv_rules.specs.Exports.{wordOf}
 use borrow.Author.Needs.{needs}
-use Rattle.gv.proofs.word_of.Statement.{statement}
-use Rattle.gv.proofs.word_of.Tie as tie
+use Rattle.c_structs.proofs.word_of.Statement.{statement}
+use Rattle.c_structs.proofs.word_of.Tie as tie
 
 mul-result : tie.Need-mul-result
 mul-result c = search needs

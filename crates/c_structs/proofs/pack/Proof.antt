@@ -1,9 +1,9 @@
--- `gv::pack` meets its contract. Assumes nothing.
+-- `c_structs::pack` meets its contract. Assumes nothing.
 use Rattle.gv_rules.specs.Exports.{packed}
 use borrow.Author.Needs.{needs}
-use Rattle.gv.proofs.pack.Statement.{statement}
-use Rattle.gv.proofs.pack.Tie as tie
-use Rattle.gv.proofs.word_of.Reads as word-of-reads
+use Rattle.c_structs.proofs.pack.Statement.{statement}
+use Rattle.c_structs.proofs.pack.Tie as tie
+use Rattle.c_structs.proofs.word_of.Reads as word-of-reads
 use Rattle.sums.proofs.verdict_number.Reads as verdict-number-reads
 
 number-requires : tie.Need-number-requires
