@@ -10,7 +10,7 @@ ghost use Rattle.rounding.specs.Operations.{productOf};
 ghost use Rattle.factors.specs.Stands.{ReadyFactors};
 ghost use Rattle.factors.specs.Prepared.{Middle, Product3, PreparedFor};
 
-// The constants 1, 10^-6, 10^-3, 0.5, 0.000114 and 365.
+// The constants 1, 10^-6, 0.5 and 365.
 pub const ONE: Number = Number {
     m: NINE_DIGITS,
     x: BIAS - 8,
@@ -21,19 +21,9 @@ pub const MILLIONTH: Number = Number {
     x: BIAS - 14,
 };
 
-pub const THOUSANDTH: Number = Number {
-    m: NINE_DIGITS,
-    x: BIAS - 11,
-};
-
 pub const HALF: Number = Number {
     m: 500_000_000,
     x: BIAS - 9,
-};
-
-pub const YEARS_PER_HOUR: Number = Number {
-    m: 114_000_000,
-    x: BIAS - 12,
 };
 
 pub const DAYS: Number = Number {

@@ -6,17 +6,28 @@ use factors::prepared::HALF;
 use factors::prepared::MILLIONTH;
 use factors::prepared::ONE;
 use factors::prepared::Prepared;
-use factors::prepared::THOUSANDTH;
-use factors::prepared::YEARS_PER_HOUR;
 use factors::prepared::opposite;
 use factors::prepared::product3;
+use rounding::BIAS;
 use rounding::Direction;
+use rounding::NINE_DIGITS;
 use rounding::Number;
 ghost use mathlib.Core.Path.{_≡_};
 ghost use Rattle.rounding.specs.Operations.{sumOf};
 ghost use Rattle.formulas.specs.Formula.{pathwaysOf};
 ghost use Rattle.terms.specs.Side.{Ready, Air, noSide, SideFor, TermsFor, WideSide, TotalSize};
 ghost use Rattle.inputs.specs.Rules.{OneOrTwo};
+
+// The constants that only a term names: 10^-3 and 0.000114.
+const THOUSANDTH: Number = Number {
+    m: NINE_DIGITS,
+    x: BIAS - 11,
+};
+
+const YEARS_PER_HOUR: Number = Number {
+    m: 114_000_000,
+    x: BIAS - 12,
+};
 
 // The terms of the three pathways of a side.
 pub struct Side {
