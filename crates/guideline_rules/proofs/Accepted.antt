@@ -24,8 +24,8 @@ pub record Accepted (s : Scenario) (medium : ℕ) (r : Contaminant) : Type 0 whe
   pub contaminant : allValid (contaminantDecimals r) ≡ true
   pub media : OneOrTwo medium
   pub class : OneOrTwo (r .class)
-  pub risk-target : eqb (s .tr .m) 0 ≡ false
-  pub hazard-target : eqb (s .thi .m) 0 ≡ false
+  pub risk-target : eqb (s .targets .tr .m) 0 ≡ false
+  pub hazard-target : eqb (s .targets .thi .m) 0 ≡ false
 
 -- ---- the inputs of an accepted call keep their rule, with the constants
 constants-valid : allValid constants ≡ true
@@ -53,5 +53,5 @@ accepted-inputs s medium r h g k =
     let a = and-split (oneOrTwo medium) _ h in
     let b = and-split (oneOrTwo (r .class)) _ k in
     let c = and-split (not (eqb (r .id) 0)) _ (b .1) in
-    let t = targets (eqb (s .ef .m) 0) (eqb (s .ed .m) 0) (eqb (s .bw .m) 0) (eqb (s .at .m) 0) (eqb (s .tr .m) 0) (eqb (s .thi .m) 0) g in
+    let t = targets (eqb (s .exposure .ef .m) 0) (eqb (s .exposure .ed .m) 0) (eqb (s .exposure .bw .m) 0) (eqb (s .exposure .at .m) 0) (eqb (s .targets .tr .m) 0) (eqb (s .targets .thi .m) 0) g in
     record { scenario = a .1; contaminant = c .1; media = one-or-two medium (a .0); class = one-or-two (r .class) (b .0); risk-target = t .0; hazard-target = t .1 }

@@ -93,13 +93,13 @@ module _ (s : Scenario) (medium : ℕ) (r : Contaminant) (a : Accepted s medium 
   total-there side h = sym (ap not (fair-zero (total-fairly side h))) ∙ present-total Up vs qs reps (pathways side) (table-sound medium (r .class) side) (three-pathways medium (r .class) side (a .media) (a .class) h)
 
   -- the targets
-  risk-target : Approx Down 0 28 (look vs TR) (given (s .tr))
+  risk-target : Approx Down 0 28 (look vs TR) (given (s .targets .tr))
   unfolding valuesOf exactValues derived
-  risk-target = fair-there (reps .other TR refl) (given-zero (s .tr) ∙ a .risk-target)
+  risk-target = fair-there (reps .other TR refl) (given-zero (s .targets .tr) ∙ a .risk-target)
 
-  hazard-target : Approx Down 0 28 (look vs THI) (given (s .thi))
+  hazard-target : Approx Down 0 28 (look vs THI) (given (s .targets .thi))
   unfolding valuesOf exactValues derived
-  hazard-target = fair-there (reps .other THI refl) (given-zero (s .thi) ∙ a .hazard-target)
+  hazard-target = fair-there (reps .other THI refl) (given-zero (s .targets .thi) ∙ a .hazard-target)
 
   abbrev pub sideValues : ℕ → Decimal
   sideValues zero = look vs TR

@@ -17,13 +17,8 @@ abbrev pub sample : Decimal → Contaminant
 sample c = record {
   class = 1;
   id = 1;
-  sfo = dec 1 (pos 0);
-  sfi = zeroOf;
-  sfx = zeroOf;
-  rfdo = dec 2 (negsuc 1);
-  rfdi = zeroOf;
-  vf = zeroOf;
-  pc = zeroOf;
+  toxicity = record { sfo = dec 1 (pos 0); sfi = zeroOf; sfx = zeroOf; rfdo = dec 2 (negsuc 1); rfdi = zeroOf };
+  transfer = record { vf = zeroOf; pc = zeroOf };
   c = c;
 }
 

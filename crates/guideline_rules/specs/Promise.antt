@@ -11,8 +11,8 @@ use Rattle.guideline_rules.specs.declared.GuidelineAnswer.{GuidelineAnsw
 
 -- side 0 is risk, with target TR; side 1 is hazard, with target THI
 abbrev pub targetOf : Scenario → ℕ → Decimal
-targetOf s zero = s .tr
-targetOf s (suc n) = s .thi
+targetOf s zero = s .targets .tr
+targetOf s (suc n) = s .targets .thi
 
 abbrev pub sideAt : GuidelineAnswer → ℕ → SideGuidelines
 sideAt g zero = g .risk

@@ -1,22 +1,21 @@
 -- Tests joined by `&&`, and what a valid decimal is. Assumes nothing.
-use mathlib.Core.Path.{_≡_, refl}
+use mathlib.Core.Path.{_≡_, refl, sym, ap, _∙_}
 use mathlib.Core.Logic.{inl, inr}
-use mathlib.Core.Bool.{Bool, true, false, _&&_, _||_}
+use mathlib.Core.Bool.{Bool, true, false, _&&_, _||_, and-assoc}
 use mathlib.Core.List.{List, [], _∷_, _++_}
 use Prim.Native.Nat.{ℕ, zero, suc, _≤_, _<_}
 use native.Mathlib.Omega.{arith}
 use lib.Dec.{eqb, leb}
-use lib.ListN.{getD}
+use lib.ListN.{getD, length}
 use borrow.Author.Tests.{leb-true, eqb-true}
 use Rattle.decimal.specs.declared.Decimal.{Decimal}
 use Rattle.decimal.specs.Exponent.{raised}
 use Rattle.decimal.specs.Decimal.{zeroOf}
+use Rattle.inputs.specs.declared.Scenario.{Scenario}
+use Rattle.inputs.specs.declared.Contaminant.{Contaminant}
+use Rattle.inputs.specs.Inputs.{exposureOf, contactOf, targetsOf, toxicityOf, transferOf, scenarioDecimals, contaminantDecimals, scenarioPlaces, contaminantPlaces, scenarioOf, contaminantOf}
 use Rattle.inputs.specs.Valid.{validOf, allValid}
 use Rattle.inputs.specs.Rules.{oneOrTwo, OneOrTwo}
-
-pub and-true : (b : Bool) → b && true ≡ b
-and-true true = refl
-and-true false = refl
 
 pub and-split : (a b : Bool) → a && b ≡ true → (a ≡ true) × (b ≡ true)
 and-split true b h = (refl, h)
@@ -43,6 +42,13 @@ valid-at [] v n = refl
 valid-at (d ∷ ds) v zero = and-split (validOf d) (allValid ds) v .0
 valid-at (d ∷ ds) v (suc n) = valid-at ds (and-split (validOf d) (allValid ds) v .1) n
 
+pub valid-join : (x y : List Decimal) → allValid (x ++ y) ≡ allValid x && allValid y
+valid-join [] y = refl
+valid-join (d ∷ ds) y = ap (λ (b : Bool). validOf d && b) (valid-join ds y) ∙ sym (and-assoc (validOf d) (allValid ds) (allValid y))
+
+pub valid-join3 : (x y z : List Decimal) → allValid (x ++ (y ++ z)) ≡ allValid x && (allValid y && allValid z)
+valid-join3 x y z = valid-join x (y ++ z) ∙ ap (λ (b : Bool). allValid x && b) (valid-join y z)
+
 pub valid-append : (x y : List Decimal) → allValid x ≡ true → allValid y ≡ true → allValid (x ++ y) ≡ true
 valid-append [] y h k = k
 valid-append (d ∷ ds) y h k = let a = and-split (validOf d) (allValid ds) h in rw (a .0) (valid-append ds y (a .1) k)
@@ -63,3 +69,18 @@ other-one (inr e) h = e
 pub other-two : {n : ℕ} → OneOrTwo n → (n ≡ 2 → ⊥) → n ≡ 1
 other-two (inl e) h = e
 other-two (inr e) h = absurd (h e)
+
+-- ---- a record comes back out of the list of its decimals
+pub scenario-of : (s : Scenario) → scenarioOf (scenarioDecimals s) ≡ s
+unfolding scenarioOf exposureOf contactOf targetsOf
+scenario-of s = refl
+
+pub contaminant-of : (r : Contaminant) → contaminantOf (r .class) (r .id) (contaminantDecimals r) ≡ r
+unfolding contaminantOf toxicityOf transferOf
+contaminant-of r = refl
+
+pub scenario-places : (s : Scenario) → length (scenarioDecimals s) ≡ scenarioPlaces
+scenario-places s = refl
+
+pub contaminant-places : (r : Contaminant) → length (contaminantDecimals r) ≡ contaminantPlaces
+contaminant-places r = refl

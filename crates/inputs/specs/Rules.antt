@@ -1,9 +1,11 @@
 -- The rules of the specification that a scenario and a contaminant have to keep, wherever they come from.
 use mathlib.Core.Path.{_≡_}
 use mathlib.Core.Logic.{_⊎_}
-use mathlib.Core.Bool.{Bool, true, false, not, _&&_, _||_}
+use mathlib.Core.Bool.{Bool, true, false, cond, not, _&&_, _||_}
 use Prim.Native.Nat.{ℕ}
 use lib.Dec.{eqb}
+use Rattle.outcome.specs.declared.Refusal.{Refusal}
+use Rattle.outcome.specs.declared.Refusal.the-variants.{Accepted, Field, Factor}
 use Rattle.inputs.specs.declared.Scenario.{Scenario}
 use Rattle.inputs.specs.declared.Contaminant.{Contaminant}
 use Rattle.inputs.specs.Inputs.{scenarioDecimals, contaminantDecimals}
@@ -23,7 +25,12 @@ scenarioFits s medium = oneOrTwo medium && allValid (scenarioDecimals s)
 -- 6: EF, ED, BW, AT, TR or THI zero
 abbrev pub lacksFactor : Scenario → Bool
 lacksFactor s =
-    not (not (eqb (s .ef .m) 0) && (not (eqb (s .ed .m) 0) && (not (eqb (s .bw .m) 0) && (not (eqb (s .at .m) 0) && (not (eqb (s .tr .m) 0) && not (eqb (s .thi .m) 0))))))
+    not (not (eqb (s .exposure .ef .m) 0) && (not (eqb (s .exposure .ed .m) 0) && (not (eqb (s .exposure .bw .m) 0) &&
+    (not (eqb (s .exposure .at .m) 0) && (not (eqb (s .targets .tr .m) 0) && not (eqb (s .targets .thi .m) 0))))))
+
+-- what is sent back of a scenario in a medium: 4, then 6
+unfoldable pub scenarioRefusal : Scenario → ℕ → Refusal
+scenarioRefusal s medium = cond (scenarioFits s medium) (cond (lacksFactor s) Factor Accepted) Field
 
 -- 4: a decimal, the class or the id breaks its rule
 abbrev pub contaminantFits : Contaminant → Bool

@@ -5,8 +5,8 @@ use rounding::BIAS;
 ghost use mathlib.Core.Bool.{_&&_};
 ghost use mathlib.Core.Path.{_≡_};
 ghost use Rattle.inputs.specs.BuiltIn.{builtInOf};
-ghost use Rattle.inputs.specs.Inputs.{scenarioDecimals, contaminantDecimals};
-ghost use Rattle.inputs.specs.Rules.{oneOrTwo, scenarioFits, contaminantFits, lacksFactor};
+ghost use Rattle.inputs.specs.Inputs.{exposureDecimals, contactDecimals, targetDecimals, toxicityDecimals, transferDecimals, scenarioDecimals, contaminantDecimals};
+ghost use Rattle.inputs.specs.Rules.{oneOrTwo, scenarioFits, contaminantFits, lacksFactor, scenarioRefusal};
 ghost use Rattle.inputs.specs.Valid.{validOf, allValid};
 
 // A list or a site has 1 to 120 contaminants.
@@ -17,43 +17,61 @@ const LEAST: u64 = BIAS - 20;
 
 const GREATEST: u64 = BIAS + 20;
 
-// The twelve factors of a scenario. Zero means not known, or not part of this scenario.
-pub struct Scenario {
-    // Exposure frequency, days per year, and duration, years.
+// Zero means not known, or not part of this scenario, in every decimal below.
+// How often and how long, and of whom: exposure frequency, days per year; exposure duration, years; body weight, kg;
+// averaging time, years.
+pub struct Exposure {
     pub ef: Decimal,
     pub ed: Decimal,
-    // Body weight, kg, and averaging time, years.
     pub bw: Decimal,
     pub at: Decimal,
-    // Ingestion, mg of soil or litres of water a day, and inhalation, m³ a day.
+}
+
+// How much meets the body: ingestion, mg of soil or litres of water a day; inhalation, m³ a day; particulate emission factor,
+// m³/kg; hours a day, outdoors or with skin in water; dose reduction factor; skin, cm².
+pub struct Contact {
     pub ir: Decimal,
     pub ira: Decimal,
-    // Particulate emission factor, m³/kg.
     pub pef: Decimal,
-    // Hours a day, outdoors or with skin in water; dose reduction factor; skin, cm².
     pub et: Decimal,
     pub rf: Decimal,
     pub sa: Decimal,
-    // Target risk and target hazard.
+}
+
+// Target risk and target hazard.
+pub struct Targets {
     pub tr: Decimal,
     pub thi: Decimal,
 }
 
-// A contaminant: its class (1 chemical, 2 radionuclide), its id, and eight decimals. Zero means not known.
-pub struct Contaminant {
-    pub class: u32,
-    pub id: u32,
-    // Slope factors: oral, inhaled, external.
+// A land-use scenario.
+pub struct Scenario {
+    pub exposure: Exposure,
+    pub contact: Contact,
+    pub targets: Targets,
+}
+
+// Slope factors, oral, inhaled and external; reference doses, oral and inhaled.
+pub struct Toxicity {
     pub sfo: Decimal,
     pub sfi: Decimal,
     pub sfx: Decimal,
-    // Reference doses: oral, inhaled.
     pub rfdo: Decimal,
     pub rfdi: Decimal,
-    // Volatilization factor, m³/kg, and skin permeability, cm/hr.
+}
+
+// Volatilization factor, m³/kg, and skin permeability, cm/hr.
+pub struct Transfer {
     pub vf: Decimal,
     pub pc: Decimal,
-    // Measured concentration.
+}
+
+// A contaminant: its class (1 chemical, 2 radionuclide), its id, and its measured concentration C.
+pub struct Contaminant {
+    pub class: u32,
+    pub id: u32,
+    pub toxicity: Toxicity,
+    pub transfer: Transfer,
     pub c: Decimal,
 }
 
@@ -67,66 +85,90 @@ pub struct BuiltIn {
 impl Scenario {
     // Office worker (source 002, Table 5.1.1).
     pub const OFFICE_WORKER: Scenario = Scenario {
-        ef: Decimal { m: 250, e: 0 },
-        ed: Decimal { m: 25, e: 0 },
-        bw: Decimal { m: 70, e: 0 },
-        at: Decimal { m: 70, e: 0 },
-        ir: Decimal { m: 50, e: 0 },
-        ira: Decimal { m: 20, e: 0 },
-        pef: Decimal { m: 428, e: 7 },
-        et: Decimal { m: 0, e: 0 },
-        rf: Decimal { m: 0, e: 0 },
-        sa: Decimal { m: 0, e: 0 },
-        tr: Decimal { m: 1, e: -6 },
-        thi: Decimal { m: 1, e: 0 },
+        exposure: Exposure {
+            ef: Decimal { m: 250, e: 0 },
+            ed: Decimal { m: 25, e: 0 },
+            bw: Decimal { m: 70, e: 0 },
+            at: Decimal { m: 70, e: 0 },
+        },
+        contact: Contact {
+            ir: Decimal { m: 50, e: 0 },
+            ira: Decimal { m: 20, e: 0 },
+            pef: Decimal { m: 428, e: 7 },
+            et: Decimal { m: 0, e: 0 },
+            rf: Decimal { m: 0, e: 0 },
+            sa: Decimal { m: 0, e: 0 },
+        },
+        targets: Targets {
+            tr: Decimal { m: 1, e: -6 },
+            thi: Decimal { m: 1, e: 0 },
+        },
     };
 
     // Archeologist (source 004).
     pub const ARCHEOLOGIST: Scenario = Scenario {
-        ef: Decimal { m: 250, e: 0 },
-        ed: Decimal { m: 1, e: 0 },
-        bw: Decimal { m: 70, e: 0 },
-        at: Decimal { m: 70, e: 0 },
-        ir: Decimal { m: 200, e: 0 },
-        ira: Decimal { m: 15, e: 0 },
-        pef: Decimal { m: 5, e: 6 },
-        et: Decimal { m: 8, e: 0 },
-        rf: Decimal { m: 1, e: 0 },
-        sa: Decimal { m: 0, e: 0 },
-        tr: Decimal { m: 1, e: -6 },
-        thi: Decimal { m: 1, e: 0 },
+        exposure: Exposure {
+            ef: Decimal { m: 250, e: 0 },
+            ed: Decimal { m: 1, e: 0 },
+            bw: Decimal { m: 70, e: 0 },
+            at: Decimal { m: 70, e: 0 },
+        },
+        contact: Contact {
+            ir: Decimal { m: 200, e: 0 },
+            ira: Decimal { m: 15, e: 0 },
+            pef: Decimal { m: 5, e: 6 },
+            et: Decimal { m: 8, e: 0 },
+            rf: Decimal { m: 1, e: 0 },
+            sa: Decimal { m: 0, e: 0 },
+        },
+        targets: Targets {
+            tr: Decimal { m: 1, e: -6 },
+            thi: Decimal { m: 1, e: 0 },
+        },
     };
 
     // Bird watcher (source 004).
     pub const BIRD_WATCHER: Scenario = Scenario {
-        ef: Decimal { m: 50, e: 0 },
-        ed: Decimal { m: 5, e: 0 },
-        bw: Decimal { m: 70, e: 0 },
-        at: Decimal { m: 70, e: 0 },
-        ir: Decimal { m: 25, e: 0 },
-        ira: Decimal { m: 5, e: 0 },
-        pef: Decimal { m: 2, e: 7 },
-        et: Decimal { m: 4, e: 0 },
-        rf: Decimal { m: 8, e: -1 },
-        sa: Decimal { m: 0, e: 0 },
-        tr: Decimal { m: 1, e: -6 },
-        thi: Decimal { m: 1, e: 0 },
+        exposure: Exposure {
+            ef: Decimal { m: 50, e: 0 },
+            ed: Decimal { m: 5, e: 0 },
+            bw: Decimal { m: 70, e: 0 },
+            at: Decimal { m: 70, e: 0 },
+        },
+        contact: Contact {
+            ir: Decimal { m: 25, e: 0 },
+            ira: Decimal { m: 5, e: 0 },
+            pef: Decimal { m: 2, e: 7 },
+            et: Decimal { m: 4, e: 0 },
+            rf: Decimal { m: 8, e: -1 },
+            sa: Decimal { m: 0, e: 0 },
+        },
+        targets: Targets {
+            tr: Decimal { m: 1, e: -6 },
+            thi: Decimal { m: 1, e: 0 },
+        },
     };
 
     // The scenario with every decimal zero.
     pub const BLANK: Scenario = Scenario {
-        ef: Decimal { m: 0, e: 0 },
-        ed: Decimal { m: 0, e: 0 },
-        bw: Decimal { m: 0, e: 0 },
-        at: Decimal { m: 0, e: 0 },
-        ir: Decimal { m: 0, e: 0 },
-        ira: Decimal { m: 0, e: 0 },
-        pef: Decimal { m: 0, e: 0 },
-        et: Decimal { m: 0, e: 0 },
-        rf: Decimal { m: 0, e: 0 },
-        sa: Decimal { m: 0, e: 0 },
-        tr: Decimal { m: 0, e: 0 },
-        thi: Decimal { m: 0, e: 0 },
+        exposure: Exposure {
+            ef: Decimal { m: 0, e: 0 },
+            ed: Decimal { m: 0, e: 0 },
+            bw: Decimal { m: 0, e: 0 },
+            at: Decimal { m: 0, e: 0 },
+        },
+        contact: Contact {
+            ir: Decimal { m: 0, e: 0 },
+            ira: Decimal { m: 0, e: 0 },
+            pef: Decimal { m: 0, e: 0 },
+            et: Decimal { m: 0, e: 0 },
+            rf: Decimal { m: 0, e: 0 },
+            sa: Decimal { m: 0, e: 0 },
+        },
+        targets: Targets {
+            tr: Decimal { m: 0, e: 0 },
+            thi: Decimal { m: 0, e: 0 },
+        },
     };
 
     // The built-in scenario of a number from 1 to 3.
@@ -167,13 +209,17 @@ impl Contaminant {
     pub const NONE: Contaminant = Contaminant {
         class: 0,
         id: 0,
-        sfo: Decimal { m: 0, e: 0 },
-        sfi: Decimal { m: 0, e: 0 },
-        sfx: Decimal { m: 0, e: 0 },
-        rfdo: Decimal { m: 0, e: 0 },
-        rfdi: Decimal { m: 0, e: 0 },
-        vf: Decimal { m: 0, e: 0 },
-        pc: Decimal { m: 0, e: 0 },
+        toxicity: Toxicity {
+            sfo: Decimal { m: 0, e: 0 },
+            sfi: Decimal { m: 0, e: 0 },
+            sfx: Decimal { m: 0, e: 0 },
+            rfdo: Decimal { m: 0, e: 0 },
+            rfdi: Decimal { m: 0, e: 0 },
+        },
+        transfer: Transfer {
+            vf: Decimal { m: 0, e: 0 },
+            pc: Decimal { m: 0, e: 0 },
+        },
         c: Decimal { m: 0, e: 0 },
     };
 }
@@ -202,59 +248,74 @@ pub fn valid(d: Decimal) -> bool
     both(m <= 999_999_999, both(range, !zero))
 }
 
-// Whether the twelve decimals of a scenario keep their rule.
+// Whether the decimals of each group keep their rule.
+fn valid_exposure(x: Exposure) -> bool
+    ensures { λ b. ⌜ b ≡ allValid (exposureDecimals x) ⌝ }
+{
+    let ef = valid(x.ef);
+    let ed = valid(x.ed);
+    let bw = valid(x.bw);
+    let at = valid(x.at);
+    both(ef, both(ed, both(bw, at)))
+}
+
+fn valid_contact(x: Contact) -> bool
+    ensures { λ b. ⌜ b ≡ allValid (contactDecimals x) ⌝ }
+{
+    let ir = valid(x.ir);
+    let ira = valid(x.ira);
+    let pef = valid(x.pef);
+    let et = valid(x.et);
+    let rf = valid(x.rf);
+    let sa = valid(x.sa);
+    both(ir, both(ira, both(pef, both(et, both(rf, sa)))))
+}
+
+fn valid_targets(x: Targets) -> bool
+    ensures { λ b. ⌜ b ≡ allValid (targetDecimals x) ⌝ }
+{
+    let tr = valid(x.tr);
+    let thi = valid(x.thi);
+    both(tr, thi)
+}
+
+fn valid_toxicity(x: Toxicity) -> bool
+    ensures { λ b. ⌜ b ≡ allValid (toxicityDecimals x) ⌝ }
+{
+    let sfo = valid(x.sfo);
+    let sfi = valid(x.sfi);
+    let sfx = valid(x.sfx);
+    let rfdo = valid(x.rfdo);
+    let rfdi = valid(x.rfdi);
+    both(sfo, both(sfi, both(sfx, both(rfdo, rfdi))))
+}
+
+fn valid_transfer(x: Transfer) -> bool
+    ensures { λ b. ⌜ b ≡ allValid (transferDecimals x) ⌝ }
+{
+    let vf = valid(x.vf);
+    let pc = valid(x.pc);
+    both(vf, pc)
+}
+
+// Whether the decimals of a scenario keep their rule.
 pub fn valid_scenario(s: Scenario) -> bool
     ensures { λ b. ⌜ b ≡ allValid (scenarioDecimals s) ⌝ }
 {
-    let ef = valid(s.ef);
-    let ed = valid(s.ed);
-    let bw = valid(s.bw);
-    let at = valid(s.at);
-    let ir = valid(s.ir);
-    let ira = valid(s.ira);
-    let pef = valid(s.pef);
-    let et = valid(s.et);
-    let rf = valid(s.rf);
-    let sa = valid(s.sa);
-    let tr = valid(s.tr);
-    let thi = valid(s.thi);
-    both(
-        ef,
-        both(
-            ed,
-            both(
-                bw,
-                both(
-                    at,
-                    both(
-                        ir,
-                        both(ira, both(pef, both(et, both(rf, both(sa, both(tr, thi)))))),
-                    ),
-                ),
-            ),
-        ),
-    )
+    let exposure = valid_exposure(s.exposure);
+    let contact = valid_contact(s.contact);
+    let targets = valid_targets(s.targets);
+    both(exposure, both(contact, targets))
 }
 
-// Whether the eight decimals of a contaminant keep their rule.
+// Whether the decimals of a contaminant keep their rule.
 pub fn valid_contaminant(r: Contaminant) -> bool
     ensures { λ b. ⌜ b ≡ allValid (contaminantDecimals r) ⌝ }
 {
-    let sfo = valid(r.sfo);
-    let sfi = valid(r.sfi);
-    let sfx = valid(r.sfx);
-    let rfdo = valid(r.rfdo);
-    let rfdi = valid(r.rfdi);
-    let vf = valid(r.vf);
-    let pc = valid(r.pc);
+    let toxicity = valid_toxicity(r.toxicity);
+    let transfer = valid_transfer(r.transfer);
     let c = valid(r.c);
-    both(
-        sfo,
-        both(
-            sfi,
-            both(sfx, both(rfdo, both(rfdi, both(vf, both(pc, c))))),
-        ),
-    )
+    both(both(toxicity, transfer), c)
 }
 
 // Whether a number is 1 or 2: a medium, or a class.
@@ -285,11 +346,24 @@ pub fn contaminant_fits(r: Contaminant) -> bool
 pub fn lacks_factor(s: Scenario) -> bool
     ensures { λ b. ⌜ b ≡ lacksFactor s ⌝ }
 {
-    let ef = s.ef.m != 0;
-    let ed = s.ed.m != 0;
-    let bw = s.bw.m != 0;
-    let at = s.at.m != 0;
-    let tr = s.tr.m != 0;
-    let thi = s.thi.m != 0;
+    let ef = s.exposure.ef.m != 0;
+    let ed = s.exposure.ed.m != 0;
+    let bw = s.exposure.bw.m != 0;
+    let at = s.exposure.at.m != 0;
+    let tr = s.targets.tr.m != 0;
+    let thi = s.targets.thi.m != 0;
     !both(ef, both(ed, both(bw, both(at, both(tr, thi)))))
+}
+
+// What is sent back of a scenario in a medium: 4, then 6.
+pub fn scenario_refusal(s: Scenario, medium: u32) -> Refusal
+    ensures { λ n. ⌜ n ≡ scenarioRefusal s medium ⌝ }
+{
+    if scenario_fits(s, medium) {
+        if lacks_factor(s) {
+            return Refusal::Factor;
+        }
+        return Refusal::Accepted;
+    }
+    Refusal::Field
 }

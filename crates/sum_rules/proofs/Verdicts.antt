@@ -139,8 +139,8 @@ module _ (target : Decimal) {lower upper : Decimal} {q t : Fraction} (l : Close 
 
 -- ---- the targets
 target-small : (s : Scenario) → allValid (scenarioDecimals s) ≡ true → (side : ℕ) → Small (targetOf s side)
-target-small s v zero = valid-small (s .tr) (valid-at (scenarioDecimals s) v 10)
-target-small s v (suc n) = valid-small (s .thi) (valid-at (scenarioDecimals s) v 11)
+target-small s v zero = valid-small (s .targets .tr) (valid-at (scenarioDecimals s) v 10)
+target-small s v (suc n) = valid-small (s .targets .thi) (valid-at (scenarioDecimals s) v 11)
 
 target-is : (s : Scenario) (side : ℕ) → workingTarget s side ≡ workingOf (targetOf s side)
 target-is s zero = refl

@@ -24,8 +24,8 @@ use Rattle.sum_rules.specs.Verdict.{verdictOf}
 
 -- the target of side 0, risk, or 1, hazard, in its working form
 abbrev pub workingTarget : Scenario → ℕ → Decimal
-workingTarget s zero = workingOf (s .tr)
-workingTarget s (suc n) = workingOf (s .thi)
+workingTarget s zero = workingOf (s .targets .tr)
+workingTarget s (suc n) = workingOf (s .targets .thi)
 
 -- the lower terms of a side and their sum, the two shares, the two running sums
 abbrev pub sumDecimals : Scenario → ℕ → ℕ → Running → Contaminant → List Decimal

@@ -1,44 +1,19 @@
 -- `inputs::valid_scenario` meets its contract. Assumes nothing.
-use Rattle.inputs.proofs.Tests.{and-true}
+use mathlib.Core.Path.{sym}
+use Rattle.inputs.specs.Inputs.{exposureDecimals, contactDecimals, targetDecimals}
+use Rattle.inputs.proofs.Tests.{valid-join3}
 use borrow.Author.Needs.{needs}
 use Rattle.inputs.proofs.valid_scenario.Statement.{statement}
 use Rattle.inputs.proofs.valid_scenario.Tie as tie
 
-valid-requires : tie.Need-valid-requires
-valid-requires c κs = search needs
+valid-exposure-requires : tie.Need-valid-exposure-requires
+valid-exposure-requires c κs = search needs
 
-valid-requires-2 : tie.Need-valid-requires-2
-valid-requires-2 c κs = search needs
+valid-contact-requires : tie.Need-valid-contact-requires
+valid-contact-requires c κs = search needs
 
-valid-requires-3 : tie.Need-valid-requires-3
-valid-requires-3 c κs = search needs
-
-valid-requires-4 : tie.Need-valid-requires-4
-valid-requires-4 c κs = search needs
-
-valid-requires-5 : tie.Need-valid-requires-5
-valid-requires-5 c κs = search needs
-
-valid-requires-6 : tie.Need-valid-requires-6
-valid-requires-6 c κs = search needs
-
-valid-requires-7 : tie.Need-valid-requires-7
-valid-requires-7 c κs = search needs
-
-valid-requires-8 : tie.Need-valid-requires-8
-valid-requires-8 c κs = search needs
-
-valid-requires-9 : tie.Need-valid-requires-9
-valid-requires-9 c κs = search needs
-
-valid-requires-10 : tie.Need-valid-requires-10
-valid-requires-10 c κs = search needs
-
-valid-requires-11 : tie.Need-valid-requires-11
-valid-requires-11 c κs = search needs
-
-valid-requires-12 : tie.Need-valid-requires-12
-valid-requires-12 c κs = search needs
+valid-targets-requires : tie.Need-valid-targets-requires
+valid-targets-requires c κs = search needs
 
 both-requires : tie.Need-both-requires
 both-requires c κs = search needs
@@ -46,87 +21,14 @@ both-requires c κs = search needs
 both-requires-2 : tie.Need-both-requires-2
 both-requires-2 c κs = search needs
 
-both-requires-3 : tie.Need-both-requires-3
-both-requires-3 c κs = search needs
-
-both-requires-4 : tie.Need-both-requires-4
-both-requires-4 c κs = search needs
-
-both-requires-5 : tie.Need-both-requires-5
-both-requires-5 c κs = search needs
-
-both-requires-6 : tie.Need-both-requires-6
-both-requires-6 c κs = search needs
-
-both-requires-7 : tie.Need-both-requires-7
-both-requires-7 c κs = search needs
-
-both-requires-8 : tie.Need-both-requires-8
-both-requires-8 c κs = search needs
-
-both-requires-9 : tie.Need-both-requires-9
-both-requires-9 c κs = search needs
-
-both-requires-10 : tie.Need-both-requires-10
-both-requires-10 c κs = search needs
-
-both-requires-11 : tie.Need-both-requires-11
-both-requires-11 c κs = search needs
-
 returns : tie.Need-returns
 returns c =
-    rw (
-      and-true,
-      c .both11 .ensures,
-      c .before .both10 .ensures,
-      c .before .before .both9 .ensures,
-      c .before .before .before .both8 .ensures,
-      c .before .before .before .before .both7 .ensures,
-      c .before .before .before .before .before .both6 .ensures,
-      c .before .before .before .before .before .before .both5 .ensures,
-      c .before .before .before .before .before .before .before .both4 .ensures,
-      c .before .before .before .before .before .before .before .before .both3 .ensures,
-      c .before .before .before .before .before .before .before .before .before .both2 .ensures,
-      c .before .before .before .before .before .before .before .before .before .before .both .ensures,
-      c .before .before .before .before .before .before .before .before .before .before .before .before .before .before .before .before .before .before .before .before .before .before .valid .ensures,
-      c .before .before .before .before .before .before .before .before .before .before .before .before .before .before .before .before .before .before .before .before .before .valid2 .ensures,
-      c .before .before .before .before .before .before .before .before .before .before .before .before .before .before .before .before .before .before .before .before .valid3 .ensures,
-      c .before .before .before .before .before .before .before .before .before .before .before .before .before .before .before .before .before .before .before .valid4 .ensures,
-      c .before .before .before .before .before .before .before .before .before .before .before .before .before .before .before .before .before .before .valid5 .ensures,
-      c .before .before .before .before .before .before .before .before .before .before .before .before .before .before .before .before .before .valid6 .ensures,
-      c .before .before .before .before .before .before .before .before .before .before .before .before .before .before .before .before .valid7 .ensures,
-      c .before .before .before .before .before .before .before .before .before .before .before .before .before .before .before .valid8 .ensures,
-      c .before .before .before .before .before .before .before .before .before .before .before .before .before .before .valid9 .ensures,
-      c .before .before .before .before .before .before .before .before .before .before .before .before .before .valid10 .ensures,
-      c .before .before .before .before .before .before .before .before .before .before .before .before .valid11 .ensures,
-      c .before .before .before .before .before .before .before .before .before .before .before .valid12 .ensures,
-    )
+    let joined = c .before in
+    let targets = joined .before in
+    let contact = targets .before in
+    let exposure = contact .before in
+    let v = exposure .before .args in
+    rw (c .both2 .ensures, joined .both .ensures, targets .valid-targets .ensures, contact .valid-contact .ensures, exposure .valid-exposure .ensures) (sym (valid-join3 (exposureDecimals (v .s .exposure)) (contactDecimals (v .s .contact)) (targetDecimals (v .s .targets))))
 
 pub valid-scenario-spec : {M : Type 1} → statement M
-valid-scenario-spec =
-    tie.close
-    (tie.spec
-    valid-requires
-    valid-requires-2
-    valid-requires-3
-    valid-requires-4
-    valid-requires-5
-    valid-requires-6
-    valid-requires-7
-    valid-requires-8
-    valid-requires-9
-    valid-requires-10
-    valid-requires-11
-    valid-requires-12
-    both-requires
-    both-requires-2
-    both-requires-3
-    both-requires-4
-    both-requires-5
-    both-requires-6
-    both-requires-7
-    both-requires-8
-    both-requires-9
-    both-requires-10
-    both-requires-11
-    returns)
+valid-scenario-spec = tie.close (tie.spec valid-exposure-requires valid-contact-requires valid-targets-requires both-requires both-requires-2 returns)

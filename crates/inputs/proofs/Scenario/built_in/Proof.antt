@@ -1,5 +1,6 @@
 -- `inputs::Scenario::built_in` meets its contract. Assumes nothing.
 use borrow.Author.Tests.{eq-eqb, ne-eqb}
+use Rattle.inputs.specs.Inputs.{exposureOf, contactOf, targetsOf, scenarioOf}
 use Rattle.inputs.specs.BuiltIn.{builtInOf}
 use Rattle.inputs.proofs.Scenario.built_in.Statement.{statement}
 use Rattle.inputs.proofs.Scenario.built_in.Tie as tie
@@ -17,7 +18,7 @@ unfolding builtInOf
 returns-3 c = rw (ne-eqb (c .before .before .before .args .number) 1 (c .before .before .if1 .left), ne-eqb (c .before .before .before .args .number) 2 (c .before .if2 .left), eq-eqb (c .before .before .before .args .number) 3 (c .if3 .taken))
 
 returns-4 : tie.Need-returns-4
-unfolding builtInOf
+unfolding builtInOf scenarioOf exposureOf contactOf targetsOf
 returns-4 c = rw (ne-eqb (c .before .before .before .args .number) 1 (c .before .before .if1 .left), ne-eqb (c .before .before .before .args .number) 2 (c .before .if2 .left), ne-eqb (c .before .before .before .args .number) 3 (c .if3 .left))
 
 pub built-in-spec : {M : Type 1} → statement M
