@@ -1,31 +1,27 @@
 -- What a formula needs so that its term can be bounded: how many roundings it makes and how far its exponent can go. Every formula of
 -- the table passes one computed test. Assumes nothing.
 use mathlib.Core.Path.{_≡_, refl}
-use mathlib.Core.Bool.{Bool, true, cond, not, _&&_}
+use mathlib.Core.Bool.{Bool, true, false, cond, not, _&&_}
 use mathlib.Core.List.{List, [], _∷_}
-use mathlib.Core.Logic.{inl, inr}
-use Prim.Native.Nat.{ℕ, zero, suc, _+_, _-_, _*_, _≤_, _<_}
-use native.Mathlib.Nat.{not-suc-le-zero, le-of-suc-le-suc}
+use Prim.Native.Nat.{ℕ, zero, suc, _+_, _≤_}
 use native.Mathlib.Omega.{arith}
 use lib.Dec.{eqb, leb, ltb}
 use lib.ListN.{length, getD}
 use borrow.Author.Tests.{eqb-true, leb-true}
+use Rattle.inputs.specs.Limits.{inputWidth, partRoundings, partWidth, workedRoundings, workedWidth, formulaRoundings, formulaWidth}
 use Rattle.inputs.proofs.Tests.{and-split}
-use Rattle.inputs.specs.Rules.{OneOrTwo}
-use Rattle.formulas.specs.Formula.{Formula, table, pathwaysOf, derived, none}
+use Rattle.formulas.specs.Side.{Side, Risk, Hazard}
+use Rattle.formulas.specs.Formula.{Formula, Row, table, formulasOf, rowOf, pathwaysOf, noPathways, derived, derivedPlaces, none}
 
--- a factor that is worked out stands in one of the first places: up to 8 roundings and a width of 200. An input is exact, of width 28
-abbrev pub derivedPlaces : ℕ
-derivedPlaces = 1
-
+-- a factor that is worked out stands in one of the first places, with its own limits; an input is exact
 abbrev pub isDerived : ℕ → Bool
 isDerived n = ltb n derivedPlaces
 
 abbrev pub roundingsOf : ℕ → ℕ
-roundingsOf n = cond (isDerived n) 8 0
+roundingsOf n = cond (isDerived n) workedRoundings 0
 
 abbrev pub widthOf : ℕ → ℕ
-widthOf n = cond (isDerived n) 200 28
+widthOf n = cond (isDerived n) workedWidth inputWidth
 
 -- of further factors, each multiplied once
 abbrev pub roundings : List ℕ → ℕ
@@ -77,24 +73,95 @@ sounds-of : (k w : ℕ) (fs : List Formula) → allSound k w fs ≡ true → Sou
 sounds-of k w [] t = end
 sounds-of k w (f ∷ fs) t = let a = and-split (soundTest k w f) (allSound k w fs) t in next (sound-of k w f (a .0)) (sounds-of k w fs (a .1))
 
-abbrev everySound : ℕ → ℕ → List (List Formula) → Bool
-everySound k w [] = true
-everySound k w (fs ∷ fss) = allSound k w fs && everySound k w fss
+-- ---- THE TABLE: every formula of it keeps the limits, and each side of each row has three places
+abbrev rowSound : Row → Bool
+rowSound x = allSound formulaRoundings formulaWidth (x .risk) && allSound formulaRoundings formulaWidth (x .hazard)
 
-sounds-at : (k w : ℕ) (fss : List (List Formula)) → everySound k w fss ≡ true → (n : ℕ) → Sounds k w (getD fss n [])
-sounds-at k w [] t n = end
-sounds-at k w (fs ∷ fss) t zero = sounds-of k w fs (and-split (allSound k w fs) (everySound k w fss) t .0)
-sounds-at k w (fs ∷ fss) t (suc n) = sounds-at k w fss (and-split (allSound k w fs) (everySound k w fss) t .1) n
+abbrev rowThree : Row → Bool
+rowThree x = eqb (length (x .risk)) 3 && eqb (length (x .hazard)) 3
 
--- THE TABLE: at most 15 roundings and a width of 600 for every formula of it
-pub table-sound : (medium class side : ℕ) → Sounds 15 600 (pathwaysOf medium class side)
+abbrev rowsSound : List Row → Bool
+rowsSound [] = true
+rowsSound (x ∷ xs) = (rowSound x && rowThree x) && rowsSound xs
+
+pub record RowGood (fs : List Formula) : Type 0 where
+  pub sound : Sounds formulaRoundings formulaWidth fs
+  pub three : length fs ≡ 3
+
+side-good : (x : Row) → rowSound x && rowThree x ≡ true → (side : Side) → RowGood (formulasOf x side)
+side-good x t Risk =
+    let a = and-split (rowSound x) (rowThree x) t in
+    record {
+      sound = sounds-of formulaRoundings formulaWidth (x .risk) (and-split (allSound formulaRoundings formulaWidth (x .risk)) _ (a .0) .0);
+      three = eqb-true (length (x .risk)) 3 (and-split (eqb (length (x .risk)) 3) _ (a .1) .0);
+    }
+side-good x t Hazard =
+    let a = and-split (rowSound x) (rowThree x) t in
+    record {
+      sound = sounds-of formulaRoundings formulaWidth (x .hazard) (and-split (allSound formulaRoundings formulaWidth (x .risk)) _ (a .0) .1);
+      three = eqb-true (length (x .hazard)) 3 (and-split (eqb (length (x .risk)) 3) _ (a .1) .1);
+    }
+
+no-pathways-good : RowGood noPathways
+no-pathways-good = record { sound = sounds-of formulaRoundings formulaWidth noPathways refl; three = refl }
+
+one-of : (b : Bool) {fs gs : List Formula} → RowGood fs → RowGood gs → RowGood (cond b fs gs)
+one-of true f g = f
+one-of false f g = g
+
+rows-good : (xs : List Row) → rowsSound xs ≡ true → (medium class : ℕ) (side : Side) → RowGood (rowOf xs medium class side)
+rows-good [] t medium class side = no-pathways-good
+rows-good (x ∷ xs) t medium class side =
+    let both = and-split (rowSound x && rowThree x) (rowsSound xs) t in
+    one-of (eqb (x .medium) medium && eqb (x .class) class) (side-good x (both .0) side) (rows-good xs (both .1) medium class side)
+
+table-good : (medium class : ℕ) (side : Side) → RowGood (pathwaysOf medium class side)
 unfolding pathwaysOf table
-table-sound medium class side = sounds-at 15 600 table refl (4 * (medium - 1) + 2 * (class - 1) + side)
+table-good medium class side = rows-good table refl medium class side
 
--- the parts of the factors that are worked out: at most 5 roundings and a width of 190
-pub derived-sound : (n : ℕ) → Sounds 5 190 (getD derived n [])
+-- every medium, class and side has three rows, each within the limits of a formula
+pub table-sound : (medium class : ℕ) (side : Side) → Sounds formulaRoundings formulaWidth (pathwaysOf medium class side)
+table-sound medium class side = table-good medium class side .sound
+
+pub three-pathways : (medium class : ℕ) (side : Side) → length (pathwaysOf medium class side) ≡ 3
+three-pathways medium class side = table-good medium class side .three
+
+-- no medium and class has two rows, of which the second would not count
+abbrev named : List Row → ℕ → ℕ → Bool
+named [] medium class = false
+named (x ∷ xs) medium class = cond (eqb (x .medium) medium && eqb (x .class) class) true (named xs medium class)
+
+abbrev distinct : List Row → Bool
+distinct [] = true
+distinct (x ∷ xs) = not (named xs (x .medium) (x .class)) && distinct xs
+
+pub table-distinct : distinct table ≡ true
+unfolding table
+table-distinct = refl
+
+-- ---- the factors that are worked out: each the sum of at most two parts within their limits
+pub data Every (k w : ℕ) : List (List Formula) → Type 0 where
+  end : Every k w []
+  next : {fs : List Formula} {fss : List (List Formula)} → Sounds k w fs → length fs ≤ 2 → Every k w fss → Every k w (fs ∷ fss)
+
+abbrev everyTest : ℕ → ℕ → List (List Formula) → Bool
+everyTest k w [] = true
+everyTest k w (fs ∷ fss) = (allSound k w fs && leb (length fs) 2) && everyTest k w fss
+
+every-of : (k w : ℕ) (fss : List (List Formula)) → everyTest k w fss ≡ true → Every k w fss
+every-of k w [] t = end
+every-of k w (fs ∷ fss) t =
+    let a = and-split (allSound k w fs && leb (length fs) 2) (everyTest k w fss) t in
+    let b = and-split (allSound k w fs) (leb (length fs) 2) (a .0) in
+    next (sounds-of k w fs (b .0)) (leb-true (length fs) 2 (b .1)) (every-of k w fss (a .1))
+
+pub derived-every : Every partRoundings partWidth derived
 unfolding derived
-derived-sound n = sounds-at 5 190 derived refl n
+derived-every = every-of partRoundings partWidth derived refl
+
+pub derived-places : length derived ≡ derivedPlaces
+unfolding derived
+derived-places = refl
 
 pub sound-at : {k w : ℕ} {fs : List Formula} → Sounds k w fs → Sound k w none → (n : ℕ) → Sound k w (getD fs n none)
 sound-at end z n = z
@@ -103,24 +170,6 @@ sound-at (next s ss) z (suc n) = sound-at ss z n
 
 pub none-sound : (k w : ℕ) → 1 ≤ k → 1 ≤ w → Sound k w none
 none-sound k w h l = record { near = omega arith; wide = omega arith; clean = refl }
-
--- ---- each side of each medium and class has three places
-abbrev allThree : List (List Formula) → Bool
-allThree [] = true
-allThree (fs ∷ fss) = eqb (length fs) 3 && allThree fss
-
-three-at : (fss : List (List Formula)) → allThree fss ≡ true → (n : ℕ) → n < length fss → length (getD fss n []) ≡ 3
-three-at [] t n h = absurd (not-suc-le-zero h)
-three-at (fs ∷ fss) t zero h = eqb-true (length fs) 3 (and-split (eqb (length fs) 3) (allThree fss) t .0)
-three-at (fs ∷ fss) t (suc n) h = three-at fss (and-split (eqb (length fs) 3) (allThree fss) t .1) n (le-of-suc-le-suc h)
-
-pub three-pathways : (medium class side : ℕ) → OneOrTwo medium → OneOrTwo class → side < 2 → length (pathwaysOf medium class side) ≡ 3
-unfolding pathwaysOf table
-three-pathways medium class side m c h = three-at table refl (4 * (medium - 1) + 2 * (class - 1) + side) (omega (arith, most m, most c, h))
-  where
-    most : {n : ℕ} → OneOrTwo n → n ≤ 2
-    most (inl e) = omega (arith, e)
-    most (inr e) = omega (arith, e)
 
 pub three-places : (fs : List Formula) → length fs ≡ 3 → fs ≡ getD fs 0 none ∷ getD fs 1 none ∷ getD fs 2 none ∷ []
 three-places [] h = absurd (omega (arith, h))

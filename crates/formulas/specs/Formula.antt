@@ -1,93 +1,100 @@
 -- The formulas (docs/SPECIFICATION.md, "Terms") as a table: a formula is the list of the factors before the stroke and of those after it.
+use mathlib.Core.Bool.{cond, _&&_}
 use mathlib.Core.List.{List, [], _∷_}
-use Prim.Native.Nat.{ℕ, _+_, _-_, _*_}
-use lib.ListN.{getD}
+use Prim.Native.Nat.{ℕ, _+_}
+use lib.Dec.{eqb}
+use Rattle.formulas.specs.Side.{Side, Risk, Hazard}
 
--- ---- the names of the factors: their places in a list of values
--- worked out from the others
+-- ---- the names of the factors: their places in a list of values. First those that are worked out from the others
 abbrev pub B : ℕ
 B = 0
 
+abbrev pub derivedPlaces : ℕ
+derivedPlaces = 1
+
 -- constants: 1, 10^-6, 10^-3, 0.5, 0.000114 and 365
 abbrev pub One : ℕ
-One = 1
+One = derivedPlaces
 
 abbrev pub Millionth : ℕ
-Millionth = 2
+Millionth = derivedPlaces + 1
 
 abbrev pub Thousandth : ℕ
-Thousandth = 3
+Thousandth = derivedPlaces + 2
 
 abbrev pub Half : ℕ
-Half = 4
+Half = derivedPlaces + 3
 
 abbrev pub YearsPerHour : ℕ
-YearsPerHour = 5
+YearsPerHour = derivedPlaces + 4
 
 abbrev pub Days : ℕ
-Days = 6
+Days = derivedPlaces + 5
 
--- of the scenario
+abbrev scenarioFirst : ℕ
+scenarioFirst = derivedPlaces + 6
+
+-- of the scenario, in the order of `scenarioDecimals`
 abbrev pub EF : ℕ
-EF = 7
+EF = scenarioFirst
 
 abbrev pub ED : ℕ
-ED = 8
+ED = scenarioFirst + 1
 
 abbrev pub BW : ℕ
-BW = 9
+BW = scenarioFirst + 2
 
 abbrev pub AT : ℕ
-AT = 10
+AT = scenarioFirst + 3
 
 abbrev pub IR : ℕ
-IR = 11
+IR = scenarioFirst + 4
 
 abbrev pub IRA : ℕ
-IRA = 12
+IRA = scenarioFirst + 5
 
 abbrev pub PEF : ℕ
-PEF = 13
+PEF = scenarioFirst + 6
 
 abbrev pub ET : ℕ
-ET = 14
+ET = scenarioFirst + 7
 
 abbrev pub RF : ℕ
-RF = 15
+RF = scenarioFirst + 8
 
 abbrev pub SA : ℕ
-SA = 16
+SA = scenarioFirst + 9
 
 abbrev pub TR : ℕ
-TR = 17
+TR = scenarioFirst + 10
 
 abbrev pub THI : ℕ
-THI = 18
+THI = scenarioFirst + 11
 
--- of the contaminant
+abbrev contaminantFirst : ℕ
+contaminantFirst = scenarioFirst + 12
+
+-- of the contaminant, in the order of `formulaDecimals`
 abbrev pub SFo : ℕ
-SFo = 19
+SFo = contaminantFirst
 
 abbrev pub SFi : ℕ
-SFi = 20
+SFi = contaminantFirst + 1
 
 abbrev pub SFx : ℕ
-SFx = 21
+SFx = contaminantFirst + 2
 
 abbrev pub RfDo : ℕ
-RfDo = 22
+RfDo = contaminantFirst + 3
 
 abbrev pub RfDi : ℕ
-RfDi = 23
+RfDi = contaminantFirst + 4
 
 abbrev pub VF : ℕ
-VF = 24
+VF = contaminantFirst + 5
 
 abbrev pub PC : ℕ
-PC = 25
-
-abbrev pub C : ℕ
-C = 26
+PC = contaminantFirst + 6
 
 pub record Formula : Type 0 where
   pub before : List ℕ
@@ -101,35 +108,73 @@ a ÷ b = record { before = a; after = b }
 abbrev pub none : Formula
 none = [] ÷ []
 
--- ---- the table: for each medium and class the three pathways of risk, then those of hazard
-unfoldable pub table : List (List Formula)
+abbrev pub noPathways : List Formula
+noPathways = none ∷ none ∷ none ∷ []
+
+-- ---- the table: for a medium (1 soil, 2 water) and a class (1 chemical, 2 radionuclide) the three pathways of each side
+pub record Row : Type 0 where
+  pub medium : ℕ
+  pub class : ℕ
+  pub risk : List Formula
+  pub hazard : List Formula
+
+unfoldable pub table : List Row
 table =
     -- soil, chemical
-    (((SFo ∷ IR ∷ Millionth ∷ EF ∷ ED ∷ []) ÷ (BW ∷ AT ∷ Days ∷ [])) ∷
-    ((SFi ∷ IRA ∷ B ∷ EF ∷ ED ∷ []) ÷ (BW ∷ AT ∷ Days ∷ [])) ∷
-    none ∷ []) ∷
-    (((IR ∷ Millionth ∷ EF ∷ []) ÷ (RfDo ∷ BW ∷ Days ∷ [])) ∷
-    ((IRA ∷ B ∷ EF ∷ []) ÷ (RfDi ∷ BW ∷ Days ∷ [])) ∷
-    none ∷ []) ∷
+    record {
+      medium = 1;
+      class = 1;
+      risk =
+          ((SFo ∷ IR ∷ Millionth ∷ EF ∷ ED ∷ []) ÷ (BW ∷ AT ∷ Days ∷ [])) ∷
+          ((SFi ∷ IRA ∷ B ∷ EF ∷ ED ∷ []) ÷ (BW ∷ AT ∷ Days ∷ [])) ∷
+          none ∷ [];
+      hazard =
+          ((IR ∷ Millionth ∷ EF ∷ []) ÷ (RfDo ∷ BW ∷ Days ∷ [])) ∷
+          ((IRA ∷ B ∷ EF ∷ []) ÷ (RfDi ∷ BW ∷ Days ∷ [])) ∷
+          none ∷ [];
+    } ∷
     -- soil, radionuclide
-    (((SFo ∷ IR ∷ Millionth ∷ EF ∷ ED ∷ []) ÷ []) ∷
-    ((SFi ∷ IRA ∷ EF ∷ ED ∷ []) ÷ (PEF ∷ [])) ∷
-    ((SFx ∷ ET ∷ RF ∷ YearsPerHour ∷ EF ∷ ED ∷ []) ÷ []) ∷ []) ∷
-    (none ∷ none ∷ none ∷ []) ∷
+    record {
+      medium = 1;
+      class = 2;
+      risk =
+          ((SFo ∷ IR ∷ Millionth ∷ EF ∷ ED ∷ []) ÷ []) ∷
+          ((SFi ∷ IRA ∷ EF ∷ ED ∷ []) ÷ (PEF ∷ [])) ∷
+          ((SFx ∷ ET ∷ RF ∷ YearsPerHour ∷ EF ∷ ED ∷ []) ÷ []) ∷ [];
+      hazard = noPathways;
+    } ∷
     -- water, chemical
-    (((SFo ∷ IR ∷ EF ∷ ED ∷ []) ÷ (BW ∷ AT ∷ Days ∷ [])) ∷
-    ((SFi ∷ IRA ∷ Half ∷ EF ∷ ED ∷ []) ÷ (BW ∷ AT ∷ Days ∷ [])) ∷
-    ((SFo ∷ SA ∷ PC ∷ ET ∷ Thousandth ∷ EF ∷ ED ∷ []) ÷ (BW ∷ AT ∷ Days ∷ [])) ∷ []) ∷
-    (((IR ∷ EF ∷ []) ÷ (RfDo ∷ BW ∷ Days ∷ [])) ∷
-    ((IRA ∷ Half ∷ EF ∷ []) ÷ (RfDi ∷ BW ∷ Days ∷ [])) ∷
-    ((SA ∷ PC ∷ ET ∷ Thousandth ∷ EF ∷ []) ÷ (RfDo ∷ BW ∷ Days ∷ [])) ∷ []) ∷
+    record {
+      medium = 2;
+      class = 1;
+      risk =
+          ((SFo ∷ IR ∷ EF ∷ ED ∷ []) ÷ (BW ∷ AT ∷ Days ∷ [])) ∷
+          ((SFi ∷ IRA ∷ Half ∷ EF ∷ ED ∷ []) ÷ (BW ∷ AT ∷ Days ∷ [])) ∷
+          ((SFo ∷ SA ∷ PC ∷ ET ∷ Thousandth ∷ EF ∷ ED ∷ []) ÷ (BW ∷ AT ∷ Days ∷ [])) ∷ [];
+      hazard =
+          ((IR ∷ EF ∷ []) ÷ (RfDo ∷ BW ∷ Days ∷ [])) ∷
+          ((IRA ∷ Half ∷ EF ∷ []) ÷ (RfDi ∷ BW ∷ Days ∷ [])) ∷
+          ((SA ∷ PC ∷ ET ∷ Thousandth ∷ EF ∷ []) ÷ (RfDo ∷ BW ∷ Days ∷ [])) ∷ [];
+    } ∷
     -- water, radionuclide
-    (((SFo ∷ IR ∷ EF ∷ ED ∷ []) ÷ []) ∷ none ∷ none ∷ []) ∷
-    (none ∷ none ∷ none ∷ []) ∷ []
+    record {
+      medium = 2;
+      class = 2;
+      risk = ((SFo ∷ IR ∷ EF ∷ ED ∷ []) ÷ []) ∷ none ∷ none ∷ [];
+      hazard = noPathways;
+    } ∷ []
 
--- medium 1 soil, 2 water; class 1 chemical, 2 radionuclide; side 0 risk, 1 hazard
-unfoldable pub pathwaysOf : ℕ → ℕ → ℕ → List Formula
-pathwaysOf medium class side = getD table (4 * (medium - 1) + 2 * (class - 1) + side) []
+abbrev pub formulasOf : Row → Side → List Formula
+formulasOf x Risk = x .risk
+formulasOf x Hazard = x .hazard
+
+-- the row of a medium and a class; what has no row has no pathway
+abbrev pub rowOf : List Row → ℕ → ℕ → Side → List Formula
+rowOf [] medium class side = noPathways
+rowOf (x ∷ xs) medium class side = cond (eqb (x .medium) medium && eqb (x .class) class) (formulasOf x side) (rowOf xs medium class side)
+
+unfoldable pub pathwaysOf : ℕ → ℕ → Side → List Formula
+pathwaysOf medium class side = rowOf table medium class side
 
 -- ---- the factors that are worked out, each as the formulas that are added up: B = 1/VF + 1/PEF
 unfoldable pub derived : List (List Formula)

@@ -12,8 +12,9 @@ use Rattle.decimal.specs.Decimal.{zeroOf, divOf, workingOf}
 use Rattle.decimal.specs.Lists.{productOf, summed}
 use Rattle.inputs.specs.declared.Scenario.{Scenario}
 use Rattle.inputs.specs.declared.Contaminant.{Contaminant}
-use Rattle.inputs.specs.Inputs.{scenarioDecimals, contaminantDecimals}
-use Rattle.formulas.specs.Formula.{Formula, derived}
+use Rattle.inputs.specs.Inputs.{scenarioDecimals, formulaDecimals}
+use Rattle.formulas.specs.Side.{Side}
+use Rattle.formulas.specs.Formula.{Formula, pathwaysOf, derived}
 
 -- the value that a name stands for
 abbrev pub look : List Decimal → ℕ → Decimal
@@ -55,7 +56,7 @@ constants =
     (record { m = 114; e = negsuc 5 } ∷ (record { m = 365; e = pos 0 } ∷ [])))))
 
 abbrev pub inputsOf : Scenario → Contaminant → List Decimal
-inputsOf s r = constants ++ (scenarioDecimals s ++ contaminantDecimals r)
+inputsOf s r = constants ++ (scenarioDecimals s ++ formulaDecimals r)
 
 -- the working forms of the inputs behind a list of values for the factors that are worked out
 abbrev pub valuesFrom : List Decimal → List Decimal → List Decimal
@@ -67,3 +68,10 @@ plainValues l = valuesFrom (map (λ (fs : List Formula). zeroOf) derived) l
 
 unfoldable pub valuesOf : Direction → List Decimal → List Decimal
 valuesOf dir l = valuesFrom (map (totalOf (plainValues l) dir) derived) l
+
+-- ---- what is cited above: the formulas of a record in a scenario and a medium, and the values of their names
+abbrev pub formulasFor : Scenario → ℕ → Contaminant → Side → List Formula
+formulasFor s medium r side = pathwaysOf medium (r .class) side
+
+abbrev pub valuesFor : Direction → Scenario → Contaminant → List Decimal
+valuesFor dir s r = valuesOf dir (inputsOf s r)

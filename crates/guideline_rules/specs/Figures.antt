@@ -8,8 +8,9 @@ use Rattle.decimal.specs.Decimal.{zeroOf}
 use Rattle.decimal.specs.Figures.{Figure, figures, dec, _is_}
 use Rattle.inputs.specs.declared.Contaminant.{Contaminant}
 use Rattle.inputs.specs.BuiltIn.{office}
-use Rattle.formulas.specs.Formula.{none, pathwaysOf}
-use Rattle.formulas.specs.Term.{termOf, inputsOf, valuesOf}
+use Rattle.formulas.specs.Side.{Risk}
+use Rattle.formulas.specs.Formula.{none}
+use Rattle.formulas.specs.Term.{termOf, formulasFor, valuesFor}
 use Rattle.guideline_rules.specs.Guideline.{guidelineOf}
 
 -- a chemical with SFo 1, RfDo 0.02 and a concentration, all else zero
@@ -27,7 +28,7 @@ chemical = sample zeroOf
 
 unfoldable pub officeFigures : List Figure
 officeFigures =
-    (termOf (valuesOf Up (inputsOf office chemical)) Up (getD (pathwaysOf 1 1 0) 0 none) is dec 174727426 (negsuc 14)) ∷
+    (termOf (valuesFor Up office chemical) Up (getD (formulasFor office 1 chemical Risk) 0 none) is dec 174727426 (negsuc 14)) ∷
     (guidelineOf office 1 chemical .risk .first is dec 572319997 (negsuc 7)) ∷
     (guidelineOf office 1 chemical .risk .total is dec 572319997 (negsuc 7)) ∷
     (guidelineOf office 1 chemical .hazard .first is dec 408799998 (negsuc 3)) ∷

@@ -1,19 +1,23 @@
 -- The single guideline of the specification: its eight decimals, or what is sent back.
-use mathlib.Core.Bool.{Bool, true, false, cond, _&&_, _||_}
+use mathlib.Core.Bool.{Bool, true, cond, _&&_}
 use mathlib.Core.List.{List, [], _∷_}
 use Prim.Native.Nat.{ℕ}
+use lib.Dec.{eqb}
 use lib.ListN.{getD}
 use Rattle.rounding.specs.declared.Direction.the-variants.{Down, Up}
 use Rattle.decimal.specs.declared.Decimal.{Decimal}
 use Rattle.decimal.specs.Exponent.{inRange}
 use Rattle.decimal.specs.Decimal.{zeroOf, divOf}
 use Rattle.outcome.specs.declared.Refusal.{Refusal}
-use Rattle.outcome.specs.declared.Refusal.the-variants.{Accepted, Field, Factor, Pathway, Range}
+use Rattle.outcome.specs.declared.Refusal.the-variants.{Accepted, Field, Range}
+use Rattle.outcome.specs.Outcome.{numberOf}
 use Rattle.inputs.specs.declared.Scenario.{Scenario}
 use Rattle.inputs.specs.declared.Contaminant.{Contaminant}
-use Rattle.inputs.specs.Rules.{scenarioFits, lacksFactor, contaminantFits}
-use Rattle.formulas.specs.Formula.{Formula, none, pathwaysOf, TR, THI}
-use Rattle.formulas.specs.Term.{look, presentOf, termOf, totalOf, inputsOf, valuesOf}
+use Rattle.inputs.specs.Rules.{scenarioRefusal, contaminantFits}
+use Rattle.formulas.specs.Side.{Side, Risk, Hazard}
+use Rattle.formulas.specs.Formula.{Formula, none, TR, THI}
+use Rattle.formulas.specs.Term.{look, termOf, totalOf, formulasFor, valuesFor}
+use Rattle.guideline_rules.specs.Pathway.{recordRefusal}
 use Rattle.guideline_rules.specs.declared.SideGuidelines.{SideGuidelines}
 use Rattle.guideline_rules.specs.declared.GuidelineAnswer.{GuidelineAnswer}
 
@@ -26,13 +30,7 @@ sideOf vs target fs = record {
   total = divOf target (totalOf vs Up fs) Down;
 }
 
--- ---- the conditions
--- 8: no pathway on either side
-abbrev pub anyPathway : List Decimal → List Formula → Bool
-anyPathway vs [] = false
-anyPathway vs (f ∷ fs) = presentOf vs f || anyPathway vs fs
-
--- 9: an e outside -999 to 999 in the terms, their sum or the guidelines
+-- ---- 9: an e outside -999 to 999 in the terms, their sum or the guidelines
 abbrev pub allRanged : List Decimal → Bool
 allRanged [] = true
 allRanged (d ∷ ds) = inRange (d .e) && allRanged ds
@@ -53,21 +51,33 @@ refused n block = record { refusal = n; block = block; risk = zeroSide; hazard =
 abbrev pub accepted : SideGuidelines → SideGuidelines → GuidelineAnswer
 accepted risk hazard = record { refusal = Accepted; block = 0; risk = risk; hazard = hazard }
 
--- 8, then 9, both in block 1
-unfoldable pub workedOut : List Decimal → List Formula → List Formula → GuidelineAnswer
-workedOut vs risk hazard =
-    cond (anyPathway vs risk || anyPathway vs hazard)
-    (cond (allRanged (sideDecimals vs (look vs TR) risk) && allRanged (sideDecimals vs (look vs THI) hazard))
-    (accepted (sideOf vs (look vs TR) risk) (sideOf vs (look vs THI) hazard))
-    (refused Range 1))
-    (refused Pathway 1)
+-- this answer, unless there is a refusal
+abbrev pub unlessRefused : Refusal → ℕ → GuidelineAnswer → GuidelineAnswer
+unlessRefused n block a = cond (eqb (numberOf n) 0) a (refused n block)
 
--- 4 and 6 in block 0, then 4, 8 and 9 in block 1
+-- ---- one record in a scenario and a medium
+abbrev pub targetName : Side → ℕ
+targetName Risk = TR
+targetName Hazard = THI
+
+abbrev pub targetValue : Scenario → Contaminant → Side → Decimal
+targetValue s r side = look (valuesFor Up s r) (targetName side)
+
+abbrev pub guidelinesOf : Scenario → ℕ → Contaminant → Side → SideGuidelines
+guidelinesOf s medium r side = sideOf (valuesFor Up s r) (targetValue s r side) (formulasFor s medium r side)
+
+abbrev pub guidelineRanged : Scenario → ℕ → Contaminant → Side → Bool
+guidelineRanged s medium r side = allRanged (sideDecimals (valuesFor Up s r) (targetValue s r side) (formulasFor s medium r side))
+
+-- the guidelines of both sides, or 9 in block 1
+unfoldable pub workedOut : Scenario → ℕ → Contaminant → GuidelineAnswer
+workedOut s medium r =
+    cond (guidelineRanged s medium r Risk && guidelineRanged s medium r Hazard)
+    (accepted (guidelinesOf s medium r Risk) (guidelinesOf s medium r Hazard))
+    (refused Range 1)
+
+-- in block 0 the refusals of the scenario; in block 1 of the record 4, the refusals after it, 9
 unfoldable pub guidelineOf : Scenario → ℕ → Contaminant → GuidelineAnswer
 guidelineOf s medium r =
-    cond (scenarioFits s medium)
-    (cond (lacksFactor s) (refused Factor 0)
-    (cond (contaminantFits r)
-    (workedOut (valuesOf Up (inputsOf s r)) (pathwaysOf medium (r .class) 0) (pathwaysOf medium (r .class) 1))
-    (refused Field 1)))
-    (refused Field 0)
+    unlessRefused (scenarioRefusal s medium) 0
+    (cond (contaminantFits r) (unlessRefused (recordRefusal s medium r) 1 (workedOut s medium r)) (refused Field 1))

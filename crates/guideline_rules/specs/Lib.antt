@@ -1,3 +1,4 @@
+pub mod Pathway
 pub mod Guideline
 pub mod Promise
 pub mod Figures

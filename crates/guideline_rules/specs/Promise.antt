@@ -6,17 +6,17 @@ use lib.Dec.{eqb}
 use Rattle.decimal.specs.declared.Decimal.{Decimal}
 use Rattle.decimal.specs.Fraction.{Fraction, given, times, AtMost}
 use Rattle.inputs.specs.declared.Scenario.{Scenario}
+use Rattle.formulas.specs.Side.{Side, Risk, Hazard}
 use Rattle.guideline_rules.specs.declared.SideGuidelines.{SideGuidelines}
 use Rattle.guideline_rules.specs.declared.GuidelineAnswer.{GuidelineAnswer}
 
--- side 0 is risk, with target TR; side 1 is hazard, with target THI
-abbrev pub targetOf : Scenario → ℕ → Decimal
-targetOf s zero = s .targets .tr
-targetOf s (suc n) = s .targets .thi
+abbrev pub targetOf : Scenario → Side → Decimal
+targetOf s Risk = s .targets .tr
+targetOf s Hazard = s .targets .thi
 
-abbrev pub sideAt : GuidelineAnswer → ℕ → SideGuidelines
-sideAt g zero = g .risk
-sideAt g (suc n) = g .hazard
+abbrev pub sideAt : GuidelineAnswer → Side → SideGuidelines
+sideAt g Risk = g .risk
+sideAt g Hazard = g .hazard
 
 -- the guideline of pathway 0, 1 or 2
 abbrev pub pathwayAt : SideGuidelines → ℕ → Decimal

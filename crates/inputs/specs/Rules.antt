@@ -1,11 +1,13 @@
 -- The rules of the specification that a scenario and a contaminant have to keep, wherever they come from.
 use mathlib.Core.Path.{_≡_}
 use mathlib.Core.Logic.{_⊎_}
-use mathlib.Core.Bool.{Bool, true, false, cond, not, _&&_, _||_}
+use mathlib.Core.Bool.{Bool, true, false, not, _&&_, _||_}
+use mathlib.Core.List.{List, [], _∷_}
 use Prim.Native.Nat.{ℕ}
 use lib.Dec.{eqb}
 use Rattle.outcome.specs.declared.Refusal.{Refusal}
-use Rattle.outcome.specs.declared.Refusal.the-variants.{Accepted, Field, Factor}
+use Rattle.outcome.specs.declared.Refusal.the-variants.{Field, Factor}
+use Rattle.outcome.specs.Outcome.{Test, test, refusedBy}
 use Rattle.inputs.specs.declared.Scenario.{Scenario}
 use Rattle.inputs.specs.declared.Contaminant.{Contaminant}
 use Rattle.inputs.specs.Inputs.{scenarioDecimals, contaminantDecimals}
@@ -29,8 +31,11 @@ lacksFactor s =
     (not (eqb (s .exposure .at .m) 0) && (not (eqb (s .targets .tr .m) 0) && not (eqb (s .targets .thi .m) 0))))))
 
 -- what is sent back of a scenario in a medium: 4, then 6
+abbrev pub scenarioTests : Scenario → ℕ → List Test
+scenarioTests s medium = test Field (not (scenarioFits s medium)) ∷ test Factor (lacksFactor s) ∷ []
+
 unfoldable pub scenarioRefusal : Scenario → ℕ → Refusal
-scenarioRefusal s medium = cond (scenarioFits s medium) (cond (lacksFactor s) Factor Accepted) Field
+scenarioRefusal s medium = refusedBy (scenarioTests s medium)
 
 -- 4: a decimal, the class or the id breaks its rule
 abbrev pub contaminantFits : Contaminant → Bool

@@ -1,4 +1,6 @@
 -- The number of each refusal (docs/SPECIFICATION.md, "What is sent back"); an accepted call has 0.
+use mathlib.Core.Bool.{Bool, cond}
+use mathlib.Core.List.{List, [], _∷_}
 use Prim.Native.Nat.{ℕ}
 use Rattle.outcome.specs.declared.Refusal.{Refusal}
 use Rattle.outcome.specs.declared.Answer.{Answer}
@@ -21,3 +23,15 @@ numberOf Pathway = 8
 numberOf Range = 9
 numberOf Room = 10
 numberOf Scenario = 11
+
+-- ---- tests in the order in which they are made: the first that holds is sent back
+pub record Test : Type 0 where
+  pub refusal : Refusal
+  pub holds : Bool
+
+abbrev pub test : Refusal → Bool → Test
+test n holds = record { refusal = n; holds = holds }
+
+abbrev pub refusedBy : List Test → Refusal
+refusedBy [] = Accepted
+refusedBy (t ∷ ts) = cond (t .holds) (t .refusal) (refusedBy ts)
