@@ -1,11 +1,11 @@
 -- A formula comes to zero exactly when its pathway is absent, so the test of absence changes nothing. Assumes nothing.
 use mathlib.Core.Path.{_≡_, refl, sym, ap, _∙_}
-use mathlib.Core.Bool.{Bool, true, false, cond, not, _&&_}
+use mathlib.Core.Bool.{Bool, true, false, cond, not, _&&_, and-true, and-false, and-assoc}
 use mathlib.Core.List.{List, [], _∷_, map}
 use Prim.Native.Nat.{ℕ, zero, _+_, _≤_}
 use native.Mathlib.Omega.{arith}
 use lib.Dec.{eqb}
-use borrow.Author.Tests.{ne-eqb}
+use borrow.Author.Tests.{ne-eqb, not-false}
 use Rattle.rounding.specs.declared.Direction.{Direction}
 use Rattle.rounding.specs.Direction.{opposite}
 use Rattle.decimal.specs.declared.Decimal.{Decimal}
@@ -27,10 +27,6 @@ record Product (w : ℕ) (d : Decimal) (b : Bool) : Type 0 where
 value-mul : (dir : Direction) {v w : ℕ} {a b : Decimal} {s : Bool} → v + w ≤ 980 → Product v a s → Value w b → Product (v + w + 1) (mulOf a b dir) (s && not (eqb (b .m) 0))
 value-mul dir {v} {w} {a} {b} {s} h p q = cases (p .value) q
   where
-    and-false : (t : Bool) → false ≡ t && false
-    and-false true = refl
-    and-false false = refl
-
     cases : Value v a → Value w b → Product (v + w + 1) (mulOf a b dir) (s && not (eqb (b .m) 0))
     cases (absent e) g =
         let z = ap (λ (d : Decimal). mulOf d b dir) e ∙ mul-zero-left dir b in
@@ -38,23 +34,15 @@ value-mul dir {v} {w} {a} {b} {s} h p q = cases (p .value) q
         record { value = absent z; some = ap (λ (d : Decimal). not (eqb (d .m) 0)) z ∙ rw (← t) }
     cases (there f) (absent e) =
         let z = ap (λ (d : Decimal). mulOf a d dir) e ∙ mul-zero-right dir a in
-        record { value = absent z; some = ap (λ (d : Decimal). not (eqb (d .m) 0)) z ∙ rw e (and-false s) }
+        record { value = absent z; some = ap (λ (d : Decimal). not (eqb (d .m) 0)) z ∙ rw e (sym (and-false s)) }
     cases (there f) (there g) =
         let m = sized-mul dir f g h in
         let t : true ≡ s = sym (ap not (ne-eqb (a .m) 0 (omega (arith, f .nine .least)))) ∙ p .some in
         record { value = there m; some = rw (ne-eqb (mulOf a b dir .m) 0 (omega (arith, m .nine .least)), ne-eqb (b .m) 0 (omega (arith, g .nine .least)), ← t) }
 
 module _ (dir : Direction) (vs : List Decimal) (each : (n : ℕ) → Value (widthOf n) (look vs n)) where
-  and-assoc : (a b c : Bool) → (a && b) && c ≡ a && (b && c)
-  and-assoc true b c = refl
-  and-assoc false b c = refl
-
   multiplied-value : (ns : List ℕ) {w : ℕ} {d : Decimal} {b : Bool} → w + widths ns ≤ 980 → Product w d b → Product (w + widths ns) (multiplied dir d (map (look vs) ns)) (b && known vs ns)
-  multiplied-value [] {w} {d} {b} h p = record { value = value-most (omega arith) (p .value); some = p .some ∙ and-true b }
-    where
-      and-true : (b : Bool) → b ≡ b && true
-      and-true true = refl
-      and-true false = refl
+  multiplied-value [] {w} {d} {b} h p = record { value = value-most (omega arith) (p .value); some = p .some ∙ sym (and-true b) }
   multiplied-value (n ∷ ns) {w} {d} {b} h p =
       let q = multiplied-value ns (omega arith) (value-mul dir (omega arith) p (each n)) in
       record { value = value-most (omega arith) (q .value); some = q .some ∙ and-assoc b (not (eqb (look vs n .m) 0)) (known vs ns) }
@@ -64,10 +52,6 @@ module _ (dir : Direction) (vs : List Decimal) (each : (n : ℕ) → Value (widt
   product-value (n ∷ ns) h = multiplied-value ns {w = widthOf n} {d = look vs n} h (record { value = each n; some = refl })
 
 -- ---- the whole formula
-not-false : (b : Bool) → not b ≡ false → b ≡ true
-not-false true h = refl
-not-false false h = sym h
-
 module _ (dir : Direction) (vs : List Decimal) (each : (n : ℕ) → Value (widthOf n) (look vs n)) where
   -- a product with a zero factor
   product-zero : (dir : Direction) (ns : List ℕ) → widthIn ns ≤ 980 → hasFactors ns && known vs ns ≡ false → productOf dir (map (look vs) ns) ≡ zeroOf
@@ -86,17 +70,13 @@ module _ (dir : Direction) (vs : List Decimal) (each : (n : ℕ) → Value (widt
   absent-zero bs as′ h k true false e f g = after-zero _ as′ k f
   absent-zero bs as′ h k true true e f g = absurd (let z : _≡_ {A = ℕ} 0 1 = cc in omega arith)
 
-  assoc : (a b c : Bool) → (a && b) && c ≡ a && (b && c)
-  assoc true b c = refl
-  assoc false b c = refl
-
   -- the term is the formula's value
   pub term-evaluated : {k w : ℕ} (f : Formula) → Sound k w f → w ≤ 900 → termOf vs dir f ≡ evaluated vs dir f
   unfolding termOf presentOf
   term-evaluated f s l = cases (presentOf vs f) refl
     where
       zero-now : presentOf vs f ≡ false → evaluated vs dir f ≡ zeroOf
-      zero-now e = absent-zero (f .before) (f .after) (omega (arith, s .wide)) (omega (arith, s .wide)) (hasFactors (f .before) && known vs (f .before)) (known vs (f .after)) refl refl (assoc (hasFactors (f .before)) (known vs (f .before)) (known vs (f .after)) ∙ e)
+      zero-now e = absent-zero (f .before) (f .after) (omega (arith, s .wide)) (omega (arith, s .wide)) (hasFactors (f .before) && known vs (f .before)) (known vs (f .after)) refl refl (and-assoc (hasFactors (f .before)) (known vs (f .before)) (known vs (f .after)) ∙ e)
 
       cases : (b : Bool) → presentOf vs f ≡ b → cond b (evaluated vs dir f) zeroOf ≡ evaluated vs dir f
       cases true e = refl

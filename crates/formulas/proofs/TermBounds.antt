@@ -1,6 +1,6 @@
 -- Terms and totals stand for their exact fractions: once for every formula, every list of formulas and both directions. Assumes nothing.
-use mathlib.Core.Path.{_≡_, refl, ap, _∙_}
-use mathlib.Core.Bool.{Bool, true, false, cond, not, _&&_, _||_}
+use mathlib.Core.Path.{_≡_, refl, sym, ap, _∙_}
+use mathlib.Core.Bool.{Bool, true, false, cond, not, _&&_, _||_, or-assoc, or-false}
 use mathlib.Core.List.{List, [], _∷_, map}
 use Prim.Native.Nat.{ℕ, zero, _+_, _*_, _≤_, _<_}
 use native.Mathlib.Nat.{mul-pos, le-refl}
@@ -128,17 +128,9 @@ pub fair-bottom : {dir : Direction} {k w : ℕ} {d : Decimal} {q : Fraction} →
 fair-bottom (none e t b) = b
 fair-bottom (some f) = f .bottom
 
-pub or-assoc : (a b c : Bool) → (a || b) || c ≡ a || (b || c)
-or-assoc true b c = refl
-or-assoc false b c = refl
-
-pub or-false : (b : Bool) → b ≡ b || false
-or-false true = refl
-or-false false = refl
-
 module _ (dir : Direction) (vs : List Decimal) (qs : List Fraction) (r : Represents dir vs qs) {K W : ℕ} (u : W ≤ 900) where
   sum-present : (fs : List Formula) → Sounds K W fs → (q : Fraction) → 0 < q .bottom → not (eqb (plusAll q (map (exactTerm qs) fs) .top) 0) ≡ not (eqb (q .top) 0) || anyPresent qs fs
-  sum-present [] no-formulas q l = or-false (not (eqb (q .top) 0))
+  sum-present [] no-formulas q l = sym (or-false (not (eqb (q .top) 0)))
   sum-present (f ∷ fs) (one-formula o os) q l =
       let b = fair-bottom (term-fair dir vs qs r u f o) in
       sum-present fs os (plus q (exactTerm qs f)) (mul-pos l b) ∙

@@ -8,12 +8,15 @@ use Rattle.inputs.specs.BuiltIn.{office}
 use Rattle.inputs.specs.Valid.{validOf}
 use Rattle.formulas.specs.Formula.{table, pathwaysOf, derived}
 use Rattle.formulas.specs.Term.{presentOf, termOf, totalOf, valuesOf}
+use Rattle.inputs.specs.Rules.{scenarioRefusal}
+use Rattle.guideline_rules.specs.Pathway.{hasPathway, recordRefusal}
 use Rattle.guideline_rules.specs.Guideline.{sideOf}
-use Rattle.sum_rules.specs.Share.{termSum, shareOf, hasPathway}
+use Rattle.sum_rules.specs.Share.{termSum, usedOf, shareOf}
 use Rattle.sum_rules.specs.Verdict.{verdictOf}
-use Rattle.sum_rules.specs.ListCall.{walk, sumsOf}
+use Rattle.sum_rules.specs.ListCall.{firstRefusal, walk, sumsOf}
 use Rattle.sum_rules.specs.Example.{example, printed}
 
 pub example-sums : sumsOf office 1 example ≡ printed
-unfolding isOperand mulOf divOf addOf workingOf atMostOf cutOf roundOf productOf quotientOf alignedOf sumOf nineOf validOf table pathwaysOf derived presentOf termOf totalOf valuesOf sideOf termSum shareOf hasPathway verdictOf walk sumsOf
+unfolding isOperand mulOf divOf addOf workingOf atMostOf cutOf roundOf productOf quotientOf alignedOf sumOf nineOf validOf table pathwaysOf derived presentOf termOf totalOf valuesOf sideOf
+    termSum usedOf shareOf hasPathway recordRefusal firstRefusal scenarioRefusal verdictOf walk sumsOf
 example-sums = refl

@@ -1,84 +1,97 @@
 -- Refusal 9 is never sent back by the list call, and every sum that it reports has an e from -999 to 999. Assumes nothing.
-use mathlib.Core.Path.{_≡_, refl, sym}
-use mathlib.Core.Bool.{Bool, true, false, true≢false, cond, _&&_, _||_}
+use mathlib.Core.Path.{_≡_, refl, sym, ap, _∙_}
+use mathlib.Core.Bool.{Bool, true, false, true≢false, false≢true, cond, not}
 use mathlib.Core.List.{List, [], _∷_}
-use Prim.Native.Nat.{ℕ, _+_, _≤_, _<_}
+use Prim.Native.Nat.{ℕ, _+_, _≤_}
 use native.Mathlib.Omega.{arith}
-use lib.Dec.{eqb, leb, lit<}
+use lib.Dec.{eqb, leb}
 use lib.ListN.{length}
-use borrow.Author.Tests.{leb-true}
+use borrow.Author.Tests.{eq-eqb, eqb-true, leb-true}
 use Rattle.decimal.proofs.Value.{Value, value-most, fair-value}
 use Rattle.outcome.specs.declared.Refusal.{Refusal}
-use Rattle.outcome.specs.declared.Refusal.the-variants.{Accepted as NotRefused, Length, Field, Factor, Order, Pathway, Range}
+use Rattle.outcome.specs.declared.Refusal.the-variants.{Field, Order, Range}
 use Rattle.outcome.specs.Outcome.{numberOf}
+use Rattle.outcome.proofs.Tests.{refused-number}
 use Rattle.inputs.specs.declared.Scenario.{Scenario}
 use Rattle.inputs.specs.declared.Contaminant.{Contaminant}
-use Rattle.inputs.specs.Rules.{scenarioFits, lacksFactor, contaminantFits}
+use Rattle.inputs.specs.Rules.{contaminantFits, mostContaminants}
+use Rattle.inputs.specs.Limits.{sumWidth}
 use Rattle.inputs.proofs.Tests.{and-split}
-use Rattle.guideline_rules.specs.Guideline.{allRanged}
-use Rattle.guideline_rules.proofs.Accepted.{accepted-inputs}
+use Rattle.formulas.specs.Side.{Side, Risk, Hazard}
+use Rattle.guideline_rules.specs.Pathway.{recordTests, recordRefusal}
+use Rattle.guideline_rules.proofs.Accepted.{Fits, accepted-inputs}
 use Rattle.sum_rules.specs.declared.SideSums.{SideSums}
 use Rattle.sum_rules.specs.declared.SumsAnswer.{SumsAnswer}
-use Rattle.sum_rules.specs.Share.{Running, start, next, runAll, hasPathway}
-use Rattle.sum_rules.specs.ListCall.{blockDecimals, refused, sideSums, walk, sumsOf}
+use Rattle.sum_rules.specs.Share.{Running, start, next, runAll}
+use Rattle.sum_rules.specs.ListCall.{blockRanged, refused, sideSums, firstTests, firstRefusal, walk, sumsOf}
 use Rattle.sum_rules.specs.Promise.{sideAt}
 use Rattle.sum_rules.proofs.ShareBounds.{AllAccepted}
 use Rattle.sum_rules.proofs.ShareBounds.AllAccepted.{nobody, also}
-use Rattle.sum_rules.proofs.Runs.{accepted-list}
+use Rattle.sum_rules.proofs.Runs.{first-passed, accepted-list}
 use Rattle.sum_rules.proofs.InRange.{FairRun, fair-start, fair-next, in-range}
 
 -- ---- the reported sums
 -- zero, or nine digits with an e from -999 to 999
 pub record RangedSums (t : SideSums) : Type 0 where
-  pub lower : Value 762 (t .lower)
-  pub upper : Value 762 (t .upper)
+  pub lower : Value sumWidth (t .lower)
+  pub upper : Value sumWidth (t .upper)
 
-run-ranged : (s : Scenario) (medium side : ℕ) (l : side < 2) (rs : List Contaminant) → AllAccepted s medium rs → (n : ℕ) (t : Running) → n + length rs ≤ 130 → FairRun n t →
+run-ranged : (s : Scenario) (medium : ℕ) (side : Side) (rs : List Contaminant) → AllAccepted s medium rs → (n : ℕ) (t : Running) → n + length rs ≤ mostContaminants → FairRun n t →
     RangedSums (sideSums s side (runAll s medium side t rs))
-run-ranged s medium side l [] nobody n t h f = record { lower = value-most (omega arith) (fair-value (f .lower)); upper = value-most (omega arith) (fair-value (f .upper)) }
-run-ranged s medium side l (r ∷ rs) (also a as′) n t h f = run-ranged s medium side l rs as′ (n + 1) (next s medium side t r) (omega arith) (fair-next s medium side l r a (omega arith) f)
+run-ranged s medium side [] nobody n t h f = record { lower = value-most (omega arith) (fair-value (f .lower)); upper = value-most (omega arith) (fair-value (f .upper)) }
+run-ranged s medium side (r ∷ rs) (also a as′) n t h f = run-ranged s medium side rs as′ (n + 1) (next s medium side t r) (omega arith) (fair-next s medium side r a (omega arith) f)
 
-pub sums-ranged : (s : Scenario) (medium : ℕ) (rs : List Contaminant) → numberOf (sumsOf s medium rs .refusal) ≡ 0 → (side : ℕ) → side < 2 → RangedSums (sideAt (sumsOf s medium rs) side)
-sums-ranged s medium rs z side l =
+pub sums-ranged : (s : Scenario) (medium : ℕ) (rs : List Contaminant) → numberOf (sumsOf s medium rs .refusal) ≡ 0 → (side : Side) → RangedSums (sideAt (sumsOf s medium rs) side)
+sums-ranged s medium rs z side =
     let p = accepted-list s medium rs z in
-    rw (p .sides side l) (run-ranged s medium side l rs (p .all) 0 start (omega (arith, p .most)) fair-start)
+    rw (p .sides side) (run-ranged s medium side rs (p .all) 0 start (omega (arith, p .most)) fair-start)
 
--- ---- the walk: a record is refused by 4, 7 or 8, or its decimals are in range
-record-never : (n : ℕ) (w : SumsAnswer) (a b c d : Bool) → (a ≡ true → d ≡ true) → (a ≡ true → numberOf (w .refusal) ≡ 9 → ⊥) →
-    numberOf (cond a (cond b (refused Order n) (cond c (cond d w (refused Range n)) (refused Pathway n))) (refused Field n) .refusal) ≡ 9 → ⊥
-record-never n w true false true true e again h = again refl h
-record-never n w true false true false e again h = true≢false (sym (e refl))
-record-never n w true false false d e again h = omega (arith, h)
-record-never n w true true c d e again h = omega (arith, h)
-record-never n w false b c d e again h = omega (arith, h)
+-- ---- the walk: a record is refused by 4, 7 or its own tests, or its decimals are in range
+abbrev not9 : ℕ → Bool
+not9 n = not (eqb n 9)
 
-module _ (s : Scenario) (medium : ℕ) (fits : scenarioFits s medium ≡ true) (known : lacksFactor s ≡ false) where
-  walk-never : (rs : List Contaminant) (n before k : ℕ) (risk hazard : Running) → k + length rs ≤ 130 → FairRun k risk → FairRun k hazard →
+never : (n : ℕ) → not9 n ≡ true → n ≡ 9 → ⊥
+never n h e = false≢true (sym (ap not (eq-eqb n 9 e)) ∙ h)
+
+record-never : (n : ℕ) (m : Refusal) (w : SumsAnswer) (a b c d : Bool) → (numberOf m ≡ 9 → ⊥) → (a ≡ true → d ≡ true) → (a ≡ true → numberOf (w .refusal) ≡ 9 → ⊥) →
+    numberOf (cond a (cond b (refused Order n) (cond c (cond d w (refused Range n)) (refused m n))) (refused Field n) .refusal) ≡ 9 → ⊥
+record-never n m w true false true true k e again h = again refl h
+record-never n m w true false true false k e again h = true≢false (sym (e refl))
+record-never n m w true false false d k e again h = k h
+record-never n m w true true c d k e again h = omega (arith, h)
+record-never n m w false b c d k e again h = omega (arith, h)
+
+record-told : (s : Scenario) (medium : ℕ) (r : Contaminant) → numberOf (recordRefusal s medium r) ≡ 9 → ⊥
+unfolding recordRefusal
+record-told s medium r = never _ (refused-number not9 refl (recordTests s medium r) refl)
+
+module _ (s : Scenario) (medium : ℕ) (fits : Fits s medium) where
+  walk-never : (rs : List Contaminant) (n before k : ℕ) (risk hazard : Running) → k + length rs ≤ mostContaminants → FairRun k risk → FairRun k hazard →
       numberOf (walk s medium rs n before risk hazard .refusal) ≡ 9 → ⊥
   unfolding walk
   walk-never [] n before k risk hazard h f g e = omega (arith, e)
   walk-never (r ∷ rs) n before k risk hazard h f g e =
-      record-never n (walk s medium rs (n + 1) (r .id) (next s medium 0 risk r) (next s medium 1 hazard r))
-      (contaminantFits r) (leb (r .id) before) (hasPathway s medium r 0 || hasPathway s medium r 1)
-      (allRanged (blockDecimals s medium 0 risk r) && allRanged (blockDecimals s medium 1 hazard r))
-      (in-range s medium fits known r (omega arith) f g)
-      (λ c. let a = accepted-inputs s medium r fits known c in
-      walk-never rs (n + 1) (r .id) (k + 1) (next s medium 0 risk r) (next s medium 1 hazard r) (omega arith)
-      (fair-next s medium 0 (lit< tt) r a (omega arith) f) (fair-next s medium 1 (lit< tt) r a (omega arith) g))
+      record-never n (recordRefusal s medium r) (walk s medium rs (n + 1) (r .id) (next s medium Risk risk r) (next s medium Hazard hazard r))
+      (contaminantFits r) (leb (r .id) before) (eqb (numberOf (recordRefusal s medium r)) 0) (blockRanged s medium risk hazard r)
+      (record-told s medium r) (in-range s medium (fits .fits) (fits .factors) r (omega arith) f g)
+      (λ c. let a = accepted-inputs s medium r (fits .fits) (fits .factors) c in
+      walk-never rs (n + 1) (r .id) (k + 1) (next s medium Risk risk r) (next s medium Hazard hazard r) (omega arith)
+      (fair-next s medium Risk r a (omega arith) f) (fair-next s medium Hazard r a (omega arith) g))
       e
 
 -- REFUSAL 9 is never sent back
+first-told : (s : Scenario) (medium n : ℕ) → numberOf (firstRefusal s medium n) ≡ 9 → ⊥
+unfolding firstRefusal
+first-told s medium n = never _ (refused-number not9 refl (firstTests s medium n) refl)
+
 pub list-never-out-of-range : (s : Scenario) (medium : ℕ) (rs : List Contaminant) → numberOf (sumsOf s medium rs .refusal) ≡ 9 → ⊥
 unfolding sumsOf
-list-never-out-of-range s medium rs = cases (leb 1 (length rs) && leb (length rs) 120) (scenarioFits s medium) (lacksFactor s) refl refl refl
+list-never-out-of-range s medium rs = cases (eqb (numberOf (firstRefusal s medium (length rs))) 0) refl
   where
-    -- by the tests before the first record: 1, 4, 6
-    cases : (a b c : Bool) → leb 1 (length rs) && leb (length rs) 120 ≡ a → scenarioFits s medium ≡ b → lacksFactor s ≡ c →
-        numberOf (cond (eqb (numberOf (cond a (cond b (cond c Factor NotRefused) Field) Length)) 0) (walk s medium rs 1 0 start start)
-        (refused (cond a (cond b (cond c Factor NotRefused) Field) Length) 0) .refusal) ≡ 9 → ⊥
-    cases true true false q f k h =
-        let most = leb-true (length rs) 120 (and-split (leb 1 (length rs)) (leb (length rs) 120) q .1) in
-        walk-never s medium f k rs 1 0 0 start start (omega arith) fair-start fair-start h
-    cases true true true q f k h = omega (arith, h)
-    cases true false c q f k h = omega (arith, h)
-    cases false b c q f k h = omega (arith, h)
+    cases : (b : Bool) → eqb (numberOf (firstRefusal s medium (length rs))) 0 ≡ b →
+        numberOf (cond b (walk s medium rs 1 0 start start) (refused (firstRefusal s medium (length rs)) 0) .refusal) ≡ 9 → ⊥
+    cases true e h =
+        let p = first-passed s medium (length rs) (eqb-true _ 0 e) in
+        let most = leb-true (length rs) 120 (and-split (leb 1 (length rs)) (leb (length rs) 120) (p .length-fits) .1) in
+        walk-never s medium (p .scenario) rs 1 0 0 start start (omega arith) fair-start fair-start h
+    cases false e h = first-told s medium (length rs) h

@@ -2,7 +2,7 @@
 use mathlib.Core.Path.{_≡_, refl, sym, ap, subst, _∙_}
 use mathlib.Core.Bool.{Bool, true, false, false≢true, cond, not}
 use mathlib.Core.List.{List, [], _∷_, map}
-use Prim.Native.Nat.{ℕ, zero, suc, _*_, _^_, _≤_, _<_}
+use Prim.Native.Nat.{ℕ, _+_, _*_, _^_, _≤_, _<_}
 use native.Mathlib.Nat.{le-of-lt, mul-assoc, mul-right-comm, mul-le-mul-right, mul-lt-mul-of-pos-right, zero-mul}
 use native.Mathlib.Omega.{arith}
 use lib.Dec.{eqb, leb}
@@ -10,7 +10,7 @@ use lib.ListN.{length}
 use borrow.Author.Tests.{eqb-true, le-leb, leb-true, leb-false}
 use Rattle.rounding.specs.declared.Direction.{Direction}
 use Rattle.rounding.specs.declared.Direction.the-variants.{Down, Up}
-use Rattle.rounding.specs.Direction.{opposite, Side}
+use Rattle.rounding.specs.Direction.{opposite, Side as Ordered}
 use Rattle.rounding.specs.Within.{Directed}
 use Rattle.rounding.specs.Number.{one}
 use Rattle.rounding.proofs.Distances.{directed-same, parts}
@@ -28,14 +28,17 @@ use Rattle.inputs.specs.declared.Scenario.{Scenario}
 use Rattle.inputs.specs.declared.Contaminant.{Contaminant}
 use Rattle.inputs.specs.Inputs.{scenarioDecimals}
 use Rattle.inputs.specs.Valid.{allValid}
+use Rattle.inputs.specs.Limits.{sumRoundings, sumWidth}
 use Rattle.inputs.proofs.Tests.{Small, and-split, valid-small, valid-at}
+use Rattle.formulas.specs.Side.{Side, Risk, Hazard}
+use Rattle.formulas.proofs.TermBounds.{fair-bottom}
 use Rattle.guideline_rules.specs.Promise.{targetOf}
 use Rattle.sum_rules.specs.declared.Verdict.the-variants.{Within as WithinV, Above, Undecided, NoPathway}
-use Rattle.sum_rules.specs.Share.{Running, start, exactShare, runAll}
+use Rattle.sum_rules.specs.Share.{Running, start, exactUsed, exactShare, runAll}
 use Rattle.sum_rules.specs.Verdict.{verdictNumber, verdictOf}
 use Rattle.sum_rules.specs.ListCall.{workingTarget, sideSums, sumsOf}
 use Rattle.sum_rules.specs.Promise.{exactSum, somePathway, noConcentration, sideAt, more, less, Enclosed, MoreThan, Judged}
-use Rattle.sum_rules.proofs.ShareBounds.{fair-bottom, AllAccepted, list-bounds}
+use Rattle.sum_rules.proofs.ShareBounds.{AllAccepted, list-bounds}
 use Rattle.sum_rules.proofs.ShareBounds.AllAccepted.{nobody, also}
 use Rattle.sum_rules.proofs.Runs.{runSum, run-start, run-any, AcceptedList, accepted-list}
 
@@ -50,17 +53,17 @@ bound dir = record { top = millionths dir; bottom = 1000000 }
 
 -- p is at most q (down), or at least q (up)
 abbrev Beside : Direction → Fraction → Fraction → Type 0
-Beside dir p q = Side dir (p .top * q .bottom) (q .top * p .bottom)
+Beside dir p q = Ordered dir (p .top * q .bottom) (q .top * p .bottom)
 
 -- the sum d, rounded in the direction, and the exact sum q
 record Close (dir : Direction) (d : Decimal) (q : Fraction) : Type 0 where
   side : Beside dir (given d) q
   near : Beside (opposite dir) (given d) (times q (bound dir))
 
--- 139 roundings are less than 2/1,000,000
-bound-core : (dir : Direction) {r v : ℕ} → Directed dir 139 r v → Side (opposite dir) (r * 1000000) (v * millionths dir)
-bound-core Down f = let h = parts 139 140 tt (f .within) in record { side = omega arith }
-bound-core Up f = let h = parts 139 140 tt (f .within) in record { side = omega arith }
+-- the roundings of a sum are less than 2/1,000,000
+bound-core : (dir : Direction) {r v : ℕ} → Directed dir sumRoundings r v → Ordered (opposite dir) (r * 1000000) (v * millionths dir)
+bound-core Down f = let h = parts sumRoundings (sumRoundings + 1) tt (f .within) in record { side = omega arith }
+bound-core Up f = let h = parts sumRoundings (sumRoundings + 1) tt (f .within) in record { side = omega arith }
 
 -- what stands for a fraction is near it, zero included
 fair-near : {dir : Direction} {k w : ℕ} {d : Decimal} {q : Fraction} → Fair dir k w d q → Directed dir k (valueOf d * q .bottom) (q .top * one)
@@ -69,8 +72,8 @@ fair-near {dir} {k} {w} {d} {q} (none e t b) =
     directed-same dir k _ _ (omega (arith, ap (λ (n : ℕ). n * q .bottom) z, ap (λ (n : ℕ). n * one) t))
 fair-near (some f) = f .near
 
--- what stands for a fraction by 139 roundings is close to it
-close : (dir : Direction) {w : ℕ} (d : Decimal) (q : Fraction) → Fair dir 139 w d q → Close dir d q
+-- what stands for a fraction by so many roundings is close to it
+close : (dir : Direction) {w : ℕ} (d : Decimal) (q : Fraction) → Fair dir sumRoundings w d q → Close dir d q
 unfolding given
 close dir d q f =
     let h = fair-near f in
@@ -94,7 +97,7 @@ module _ (target : Decimal) {lower upper : Decimal} {q t : Fraction} (l : Close 
   above-true h = rw same (λ k. omega (arith, k, l .side .side, mul-lt-mul-of-pos-right h pos))
 
   -- a target not below the lower sum, or not above the upper sum, keeps that sum's bound
-  near-true : (dir : Direction) {d : Decimal} → Close dir d q → Side (opposite dir) (valueOf target) (valueOf d) → Beside (opposite dir) t (times q (bound dir))
+  near-true : (dir : Direction) {d : Decimal} → Close dir d q → Ordered (opposite dir) (valueOf target) (valueOf d) → Beside (opposite dir) t (times q (bound dir))
   unfolding given
   near-true dir c h = rw same (side-trans (opposite dir) (side-scale (opposite dir) (q .bottom * 1000000) h) (c .near))
 
@@ -138,31 +141,27 @@ module _ (target : Decimal) {lower upper : Decimal} {q t : Fraction} (l : Close 
   judged any f g h = rw (at-most-is upper target g h, at-most-is lower target f h) (judged-cases any (leb (valueOf upper) (valueOf target)) (leb (valueOf lower) (valueOf target)) refl refl)
 
 -- ---- the targets
-target-small : (s : Scenario) → allValid (scenarioDecimals s) ≡ true → (side : ℕ) → Small (targetOf s side)
-target-small s v zero = valid-small (s .targets .tr) (valid-at (scenarioDecimals s) v 10)
-target-small s v (suc n) = valid-small (s .targets .thi) (valid-at (scenarioDecimals s) v 11)
-
-target-is : (s : Scenario) (side : ℕ) → workingTarget s side ≡ workingOf (targetOf s side)
-target-is s zero = refl
-target-is s (suc n) = refl
+target-small : (s : Scenario) → allValid (scenarioDecimals s) ≡ true → (side : Side) → Small (targetOf s side)
+target-small s v Risk = valid-small (s .targets .tr) (valid-at (scenarioDecimals s) v 10)
+target-small s v Hazard = valid-small (s .targets .thi) (valid-at (scenarioDecimals s) v 11)
 
 given-same : (a b : Decimal) → valueOf a ≡ valueOf b → given a ≡ given b
 unfolding given
 given-same a b e = ap (λ (n : ℕ). record { top = n; bottom = one }) e
 
 -- ---- concentrations of zero add up to zero
-zero-share : (s : Scenario) (medium side : ℕ) (r : Contaminant) → r .c .m ≡ 0 → exactShare s medium side r .top ≡ 0
-unfolding exactShare given
+zero-share : (s : Scenario) (medium : ℕ) (side : Side) (r : Contaminant) → r .c .m ≡ 0 → exactShare s medium side r .top ≡ 0
+unfolding exactShare exactUsed given
 zero-share s medium side r h = rw (h, zero-mul (10 ^ raise (r .c .e))) (zero-mul _)
 
-zero-sum : (s : Scenario) (medium side : ℕ) (rs : List Contaminant) (p : Fraction) → p .top ≡ 0 → noConcentration rs ≡ true → plusAll p (map (exactShare s medium side) rs) .top ≡ 0
+zero-sum : (s : Scenario) (medium : ℕ) (side : Side) (rs : List Contaminant) (p : Fraction) → p .top ≡ 0 → noConcentration rs ≡ true → plusAll p (map (exactShare s medium side) rs) .top ≡ 0
 zero-sum s medium side [] p e h = e
 zero-sum s medium side (r ∷ rs) p e h =
     let k = and-split (eqb (r .c .m) 0) (noConcentration rs) h in
     let z = zero-share s medium side r (eqb-true (r .c .m) 0 (k .0)) in
     zero-sum s medium side rs (plus p (exactShare s medium side r)) (rw (e, z, zero-mul (exactShare s medium side r .bottom), zero-mul (p .bottom))) (k .1)
 
-upper-zero : {w : ℕ} {d : Decimal} {q : Fraction} → Fair Up 139 w d q → q .top ≡ 0 → valueOf d ≡ 0
+upper-zero : {w : ℕ} {d : Decimal} {q : Fraction} → Fair Up sumRoundings w d q → q .top ≡ 0 → valueOf d ≡ 0
 upper-zero (none e t b) h = ap valueOf e ∙ zero-mul (10 ^ 3000)
 upper-zero (some f) h = absurd (omega (arith, f .top, h))
 
@@ -171,7 +170,7 @@ scenario-valid : (s : Scenario) (medium : ℕ) (rs : List Contaminant) → AllAc
 scenario-valid s medium [] nobody h = absurd (omega (arith, h))
 scenario-valid s medium (r ∷ rs) (also a as′) h = a .scenario
 
-module _ (s : Scenario) (medium : ℕ) (rs : List Contaminant) (h : numberOf (sumsOf s medium rs .refusal) ≡ 0) (side : ℕ) (l : side < 2) where
+module _ (s : Scenario) (medium : ℕ) (rs : List Contaminant) (h : numberOf (sumsOf s medium rs .refusal) ≡ 0) (side : Side) where
   p : AcceptedList s medium rs
   p = accepted-list s medium rs h
 
@@ -179,9 +178,9 @@ module _ (s : Scenario) (medium : ℕ) (rs : List Contaminant) (h : numberOf (su
   run = runAll s medium side start rs
 
   -- the sum of a direction stands for the exact sum
-  fair-run : (dir : Direction) → Fair dir 139 752 (runSum dir run) (exactSum s medium side rs)
+  fair-run : (dir : Direction) → Fair dir sumRoundings sumWidth (runSum dir run) (exactSum s medium side rs)
   unfolding run
-  fair-run dir = subst (λ (d : Decimal). Fair dir 139 752 d (exactSum s medium side rs)) (sym (run-start dir s medium side rs)) (list-bounds s medium side l dir rs (p .all) (p .most))
+  fair-run dir = subst (λ (d : Decimal). Fair dir sumRoundings sumWidth d (exactSum s medium side rs)) (sym (run-start dir s medium side rs)) (list-bounds s medium side dir rs (p .all) (p .most))
 
   -- and is within 2/1,000,000 of it
   close-run : (dir : Direction) → Close dir (runSum dir run) (exactSum s medium side rs)
@@ -189,7 +188,7 @@ module _ (s : Scenario) (medium : ℕ) (rs : List Contaminant) (h : numberOf (su
 
   side-is : sideAt (sumsOf s medium rs) side ≡ sideSums s side run
   unfolding run
-  side-is = p .sides side l
+  side-is = p .sides side
 
   any-is : run .any ≡ somePathway s medium side rs
   unfolding run
@@ -199,10 +198,10 @@ module _ (s : Scenario) (medium : ℕ) (rs : List Contaminant) (h : numberOf (su
   small = target-small s (scenario-valid s medium rs (p .all) (p .some)) side
 
   target-given : given (targetOf s side) ≡ given (workingTarget s side)
-  target-given = given-same (targetOf s side) (workingTarget s side) (sym (ap valueOf (target-is s side) ∙ working-value (targetOf s side) (small .digits) (omega (arith, small .low))))
+  target-given = given-same (targetOf s side) (workingTarget s side) (sym (working-value (targetOf s side) (small .digits) (omega (arith, small .low))))
 
   target-operable : Operable (workingTarget s side)
-  target-operable = subst Operable (sym (target-is s side)) (fair-operable (working-fair Up (targetOf s side) (small .digits) (small .low) (small .high)))
+  target-operable = fair-operable (working-fair Up (targetOf s side) (small .digits) (small .low) (small .high))
 
   -- DEMAND 3: the exact sum lies from the lower to the upper sum, and each differs from it by at most 2/1,000,000 of it
   pub sums-enclose : Enclosed (sideAt (sumsOf s medium rs) side .lower) (sideAt (sumsOf s medium rs) side .upper) (exactSum s medium side rs)

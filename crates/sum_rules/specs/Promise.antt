@@ -2,7 +2,7 @@
 use mathlib.Core.Path.{_≡_}
 use mathlib.Core.Bool.{Bool, true, false, _&&_, _||_}
 use mathlib.Core.List.{List, [], _∷_, map}
-use Prim.Native.Nat.{ℕ, zero, suc}
+use Prim.Native.Nat.{ℕ}
 use lib.Dec.{eqb}
 use Rattle.decimal.specs.declared.Decimal.{Decimal}
 use Rattle.decimal.specs.Decimal.{zeroOf}
@@ -10,30 +10,30 @@ use Rattle.decimal.specs.Fraction.{Fraction, nothing, given, times, AtMost}
 use Rattle.decimal.specs.Lists.{plusAll}
 use Rattle.inputs.specs.declared.Scenario.{Scenario}
 use Rattle.inputs.specs.declared.Contaminant.{Contaminant}
-use Rattle.formulas.specs.Formula.{pathwaysOf}
-use Rattle.formulas.specs.Term.{inputsOf}
-use Rattle.formulas.specs.ExactTerm.{exactValues, anyPresent}
+use Rattle.formulas.specs.Side.{Side, Risk, Hazard}
+use Rattle.formulas.specs.Term.{formulasFor}
+use Rattle.formulas.specs.ExactTerm.{exactFor, anyPresent}
 use Rattle.sum_rules.specs.declared.SideSums.{SideSums}
 use Rattle.sum_rules.specs.declared.SumsAnswer.{SumsAnswer}
 use Rattle.sum_rules.specs.Share.{exactShare}
 
--- the exact sum of a list on a side: each record at its own C
-abbrev pub exactSum : Scenario → ℕ → ℕ → List Contaminant → Fraction
+-- the exact sum of a list on a side: each record at its own concentration
+abbrev pub exactSum : Scenario → ℕ → Side → List Contaminant → Fraction
 exactSum s medium side rs = plusAll nothing (map (exactShare s medium side) rs)
 
 -- some contaminant of the list has a pathway on the side
-abbrev pub somePathway : Scenario → ℕ → ℕ → List Contaminant → Bool
+abbrev pub somePathway : Scenario → ℕ → Side → List Contaminant → Bool
 somePathway s medium side [] = false
-somePathway s medium side (r ∷ rs) = anyPresent (exactValues (inputsOf s r)) (pathwaysOf medium (r .class) side) || somePathway s medium side rs
+somePathway s medium side (r ∷ rs) = anyPresent (exactFor s r) (formulasFor s medium r side) || somePathway s medium side rs
 
 -- C is zero throughout
 abbrev pub noConcentration : List Contaminant → Bool
 noConcentration [] = true
 noConcentration (r ∷ rs) = eqb (r .c .m) 0 && noConcentration rs
 
-abbrev pub sideAt : SumsAnswer → ℕ → SideSums
-sideAt a zero = a .risk
-sideAt a (suc n) = a .hazard
+abbrev pub sideAt : SumsAnswer → Side → SideSums
+sideAt a Risk = a .risk
+sideAt a Hazard = a .hazard
 
 -- both sums are (0, 0): what "none" says beside its verdict
 pub record ZeroSums (t : SideSums) : Type 0 where

@@ -9,22 +9,22 @@ use Rattle.decimal.specs.Decimal.{zeroOf, mulOf, addOf, workingOf}
 use Rattle.decimal.specs.Fraction.{Fraction, given, times}
 use Rattle.inputs.specs.declared.Scenario.{Scenario}
 use Rattle.inputs.specs.declared.Contaminant.{Contaminant}
-use Rattle.formulas.specs.Formula.{pathwaysOf}
-use Rattle.formulas.specs.Term.{totalOf, inputsOf, valuesOf}
-use Rattle.formulas.specs.ExactTerm.{exactTotal, exactValues}
-use Rattle.guideline_rules.specs.Guideline.{anyPathway}
+use Rattle.formulas.specs.Side.{Side}
+use Rattle.formulas.specs.Term.{totalOf, formulasFor, valuesFor}
+use Rattle.formulas.specs.ExactTerm.{exactTotal, exactFor}
+use Rattle.guideline_rules.specs.Pathway.{hasPathway}
 
 -- the sum of the terms of a side: upper terms added up, lower ones down
-unfoldable pub termSum : Scenario → ℕ → Contaminant → Direction → ℕ → Decimal
-termSum s medium r dir side = totalOf (valuesOf dir (inputsOf s r)) dir (pathwaysOf medium (r .class) side)
+unfoldable pub termSum : Scenario → ℕ → Contaminant → Direction → Side → Decimal
+termSum s medium r dir side = totalOf (valuesFor dir s r) dir (formulasFor s medium r side)
 
--- C times the term sum, up with the upper, down with the lower
-unfoldable pub shareOf : Scenario → ℕ → Contaminant → Direction → ℕ → Decimal
-shareOf s medium r dir side = mulOf (workingOf (r .c)) (termSum s medium r dir side) dir
+-- the concentration that a sum uses: C
+unfoldable pub usedOf : Contaminant → Direction → Decimal
+usedOf r dir = workingOf (r .c)
 
--- a term of the side is not absent
-unfoldable pub hasPathway : Scenario → ℕ → Contaminant → ℕ → Bool
-hasPathway s medium r side = anyPathway (valuesOf Up (inputsOf s r)) (pathwaysOf medium (r .class) side)
+-- the concentration times the term sum, up with the upper, down with the lower
+unfoldable pub shareOf : Scenario → ℕ → Contaminant → Direction → Side → Decimal
+shareOf s medium r dir side = mulOf (usedOf r dir) (termSum s medium r dir side) dir
 
 -- ---- the running sums of a side
 pub record Running : Type 0 where
@@ -36,7 +36,7 @@ abbrev pub start : Running
 start = record { lower = zeroOf; upper = zeroOf; any = false }
 
 -- one step: the shares are added down and up
-abbrev pub next : Scenario → ℕ → ℕ → Running → Contaminant → Running
+abbrev pub next : Scenario → ℕ → Side → Running → Contaminant → Running
 next s medium side t r = record {
   lower = addOf (t .lower) (shareOf s medium r Down side) Down;
   upper = addOf (t .upper) (shareOf s medium r Up side) Up;
@@ -44,10 +44,13 @@ next s medium side t r = record {
 }
 
 -- the running sums of a side over a list
-abbrev pub runAll : Scenario → ℕ → ℕ → Running → List Contaminant → Running
+abbrev pub runAll : Scenario → ℕ → Side → Running → List Contaminant → Running
 runAll s medium side t [] = t
 runAll s medium side t (r ∷ rs) = runAll s medium side (next s medium side t r) rs
 
 -- ---- exactly: the concentration as given times the sum of the exact terms
-unfoldable pub exactShare : Scenario → ℕ → ℕ → Contaminant → Fraction
-exactShare s medium side r = times (given (r .c)) (exactTotal (exactValues (inputsOf s r)) (pathwaysOf medium (r .class) side))
+unfoldable pub exactUsed : Contaminant → Fraction
+exactUsed r = given (r .c)
+
+unfoldable pub exactShare : Scenario → ℕ → Side → Contaminant → Fraction
+exactShare s medium side r = times (exactUsed r) (exactTotal (exactFor s r) (formulasFor s medium r side))
