@@ -1,10 +1,10 @@
 -- Reading what the writer of kind 2 wrote gives the same contaminant, each decimal with the same m and the same e. Assumes nothing.
-use mathlib.Core.Path.{_≡_, refl, ap, ap₂, _∙_}
+use mathlib.Core.Path.{_≡_, refl, ap, _∙_}
 use mathlib.Core.List.{List}
-use mathlib.Core.Bool.{Bool, true, _&&_, not, cond}
+use mathlib.Core.Bool.{true, _&&_, not, cond}
 use Prim.Native.Nat.{ℕ, _<_}
 use native.Mathlib.Omega.{arith}
-use lib.ListN.{length, getD, replicate}
+use lib.ListN.{length}
 use lib.Dec.{eqb, leb, ltb}
 use borrow.Author.Tests.{eq-eqb, lt-leb, not-false}
 use Rattle.outcome.specs.declared.Refusal.{Refusal}
@@ -12,28 +12,30 @@ use Rattle.outcome.specs.declared.Refusal.the-variants.{Accepted, Field, Order,
 use Rattle.words.specs.Words.{wordAt, partOf}
 use Rattle.words.specs.Bytes.{over}
 use Rattle.words.proofs.Written.{part-over}
-use Rattle.words.proofs.ReadBack.{zeros-rest}
-use Rattle.decimal.specs.declared.Decimal.{Decimal}
-use Rattle.decimal.specs.Decimal.{zeroOf}
 use Rattle.inputs.specs.declared.Contaminant.{Contaminant}
-use Rattle.inputs.specs.Inputs.{contaminantDecimals}
+use Rattle.inputs.specs.Inputs.{contaminantDecimals, contaminantPlaces, contaminantOf}
 use Rattle.inputs.specs.Valid.{allValid}
 use Rattle.inputs.specs.Rules.{oneOrTwo, contaminantFits}
-use Rattle.inputs.proofs.Tests.{and-split}
+use Rattle.inputs.proofs.Tests.{and-split, contaminant-of}
 use Rattle.fields.specs.Fields.{decimalsAt}
 use Rattle.fields.proofs.ReadBack.{all-fit}
 use Rattle.block_rules.specs.declared.ContaminantRead.the-variants as C
 use Rattle.block_rules.specs.Rules.{inFile}
+use Rattle.block_rules.specs.Pieces.{contaminantPieces, unusedBytes}
 use Rattle.block_rules.specs.Reading.{contaminantAt, contaminantUnused, soundAt, contaminantRead}
 use Rattle.block_rules.proofs.Found.{passed, refused}
 use Rattle.block_rules.proofs.Rules.{in-file, at-most-two}
-use Rattle.block_rules.specs.Layouts.{contaminantBlock}
+use Rattle.block_rules.specs.Layouts.{unusedOf, contaminantBlock}
 use Rattle.block_rules.specs.Answers.{contaminantFit, contaminantRefusal, leftBy, contaminantLeft}
-use Rattle.block_rules.proofs.ReadBack.{zeros-long, kind-back, first-back, second-back, decimals-back, unused-back, ending-back, block-length, sound-back}
+use Rattle.block_rules.proofs.ReadBack.{zeros-long, kind-back, first-back, second-back, decimals-back, block-length, sound-back, record-unused-back}
+
+-- the zero bytes behind the decimals
+abbrev gap : List ℕ
+gap = unusedOf contaminantPieces
 
 pub contaminant-length : (place : ℕ) (r : Contaminant) → length (contaminantBlock place r) ≡ 512
 unfolding contaminantBlock
-contaminant-length place r = block-length 2 place (r .class) (r .id) (contaminantDecimals r) (replicate 428 0) (zeros-long 8 428 refl)
+contaminant-length place r = block-length 2 place (r .class) (r .id) (contaminantDecimals r) gap (zeros-long contaminantPlaces (unusedBytes contaminantPieces) refl)
 
 module _ (place previous : ℕ) (r : Contaminant) (fit : contaminantFit place r ≡ true) (small : r .id < 4294967296) where
   abbrev cb : List ℕ
@@ -53,44 +55,33 @@ module _ (place previous : ℕ) (r : Contaminant) (fit : contaminantFit place r 
   decimals-good : allValid (contaminantDecimals r) ≡ true
   decimals-good = and-split (not (eqb (r .id) 0)) (allValid (contaminantDecimals r)) (and-split (oneOrTwo (r .class)) (not (eqb (r .id) 0) && allValid (contaminantDecimals r)) valid .1) .1
 
-  read-decimals : decimalsAt cb 16 8 ≡ contaminantDecimals r
+  read-decimals : decimalsAt cb 16 contaminantPlaces ≡ contaminantDecimals r
   unfolding contaminantBlock
-  read-decimals = decimals-back 2 place (r .class) (r .id) (contaminantDecimals r) (replicate 428 0) (all-fit (contaminantDecimals r) decimals-good)
+  read-decimals = decimals-back 2 place (r .class) (r .id) (contaminantDecimals r) gap (all-fit (contaminantDecimals r) decimals-good)
 
-  nth : (n : ℕ) → getD (decimalsAt cb 16 8) n zeroOf ≡ getD (contaminantDecimals r) n zeroOf
-  nth n = ap (λ (l : List Decimal). getD l n zeroOf) read-decimals
+  read-class : wordAt cb 8 ≡ r .class
+  unfolding contaminantBlock
+  read-class = first-back 2 place (r .class) (r .id) (contaminantDecimals r) gap (omega (arith, at-most-two (r .class) class-good))
+
+  read-id : wordAt cb 12 ≡ r .id
+  unfolding contaminantBlock
+  read-id = second-back 2 place (r .class) (r .id) (contaminantDecimals r) gap small
 
   read-record : contaminantAt cb 8 ≡ r
-  unfolding contaminantAt contaminantBlock decimalsAt
-  read-record = λ i. record {
-    class = first-back 2 place (r .class) (r .id) (contaminantDecimals r) (replicate 428 0) (omega (arith, at-most-two (r .class) class-good)) i;
-    id = second-back 2 place (r .class) (r .id) (contaminantDecimals r) (replicate 428 0) small i;
-    sfo = nth 0 i;
-    sfi = nth 1 i;
-    sfx = nth 2 i;
-    rfdo = nth 3 i;
-    rfdi = nth 4 i;
-    vf = nth 5 i;
-    pc = nth 6 i;
-    c = nth 7 i;
-  }
+  unfolding contaminantAt
+  read-record = (λ i. contaminantOf (read-class i) (read-id i) (read-decimals i)) ∙ contaminant-of r
 
   unused : contaminantUnused cb 8 ≡ true
   unfolding contaminantUnused contaminantBlock
-  unused = ap₂ (λ (x y : Bool). x && y) (unused-back 2 place (r .class) (r .id) (contaminantDecimals r) (replicate 428 0))
-      (zeros-rest cb _ 80 428 428 (ending-back 2 place (r .class) (r .id) (contaminantDecimals r) (replicate 428 0) 64 refl) (omega arith))
+  unused = record-unused-back 2 place (r .class) (r .id) (contaminantDecimals r) (unusedBytes contaminantPieces)
 
   sound : soundAt cb place ≡ true
   unfolding contaminantBlock
-  sound = sound-back 2 place (r .class) (r .id) (contaminantDecimals r) (replicate 428 0) (zeros-long 8 428 refl) (omega (arith, in-file place placed-well))
+  sound = sound-back 2 place (r .class) (r .id) (contaminantDecimals r) gap (zeros-long contaminantPlaces (unusedBytes contaminantPieces) refl) (omega (arith, in-file place placed-well))
 
   kind : wordAt cb 0 ≡ 2
   unfolding contaminantBlock
-  kind = kind-back 2 place (r .class) (r .id) (contaminantDecimals r) (replicate 428 0) (omega arith)
-
-  read-id : wordAt cb 12 ≡ r .id
-  unfolding contaminantAt
-  read-id = ap (λ (x : Contaminant). x .id) read-record
+  kind = kind-back 2 place (r .class) (r .id) (contaminantDecimals r) gap (omega arith)
 
   -- only the order is left to be tested
   pub contaminant-read-back : contaminantRead cb place previous ≡ cond (leb (r .id) previous) (C.Refused Order) (C.Found r)

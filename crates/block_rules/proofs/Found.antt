@@ -12,6 +12,7 @@ use Rattle.outcome.specs.declared.Refusal.the-variants.{Length, Check, Kind, Fi
 use Rattle.outcome.specs.Outcome.{numberOf}
 use Rattle.words.specs.Words.{wordAt}
 use Rattle.inputs.specs.declared.Contaminant.{Contaminant}
+use Rattle.inputs.specs.Inputs.{contaminantOf}
 use Rattle.inputs.specs.Rules.{scenarioFits, contaminantFits, lacksFactor}
 use Rattle.inputs.proofs.Tests.{and-split}
 use Rattle.block_rules.specs.declared.Header.{Header}
@@ -37,7 +38,7 @@ pub record ContaminantFacts (b : List ℕ) (previous : ℕ) (r : Contaminant) : 
   pub above : previous < r .id
 
 pub contaminant-facts : (b : List ℕ) (place previous : ℕ) (r : Contaminant) → contaminantRead b place previous ≡ C.Found r → ContaminantFacts b previous r
-unfolding contaminantRead contaminantAt
+unfolding contaminantRead contaminantAt contaminantOf
 contaminant-facts b place previous r e =
     let e₁ = passed (not (eqb (length b) 512)) (C.Refused Length) _ (C.Found r) (other Length r) e .1 in
     let e₂ = passed (not (soundAt b place)) (C.Refused Check) _ (C.Found r) (other Check r) e₁ .1 in

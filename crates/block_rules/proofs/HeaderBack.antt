@@ -4,7 +4,7 @@ use mathlib.Core.List.{List}
 use mathlib.Core.Bool.{Bool, true, false, _&&_, not}
 use Prim.Native.Nat.{ℕ, _+_}
 use native.Mathlib.Omega.{arith}
-use lib.ListN.{length, getD, replicate}
+use lib.ListN.{length}
 use lib.Dec.{eqb, ltb}
 use borrow.Author.Tests.{eq-eqb, not-false}
 use Rattle.outcome.specs.declared.Refusal.{Refusal}
@@ -12,29 +12,32 @@ use Rattle.outcome.specs.declared.Refusal.the-variants.{Accepted, Field, Factor
 use Rattle.words.specs.Words.{wordAt, partOf}
 use Rattle.words.specs.Bytes.{over}
 use Rattle.words.proofs.Written.{part-over}
-use Rattle.words.proofs.ReadBack.{zeros-rest}
 use Rattle.decimal.specs.declared.Decimal.{Decimal}
-use Rattle.decimal.specs.Decimal.{zeroOf}
 use Rattle.inputs.specs.declared.Scenario.{Scenario}
-use Rattle.inputs.specs.Inputs.{scenarioDecimals}
+use Rattle.inputs.specs.Inputs.{scenarioDecimals, scenarioPlaces, scenarioOf}
 use Rattle.inputs.specs.Valid.{allValid}
 use Rattle.inputs.specs.Rules.{oneOrTwo, scenarioFits, lacksFactor}
-use Rattle.inputs.proofs.Tests.{and-split}
+use Rattle.inputs.proofs.Tests.{and-split, scenario-of}
 use Rattle.fields.specs.Fields.{decimalsAt}
 use Rattle.fields.proofs.ReadBack.{all-fit}
 use Rattle.block_rules.specs.declared.Header.{Header}
 use Rattle.block_rules.specs.declared.HeaderRead.the-variants as H
 use Rattle.block_rules.specs.Rules.{inFile, countOk}
+use Rattle.block_rules.specs.Pieces.{headerPieces, unusedBytes}
 use Rattle.block_rules.specs.Reading.{scenarioAt, headerAt, headerUnused, soundAt, headerRead}
 use Rattle.block_rules.proofs.Found.{passed, refused}
 use Rattle.block_rules.proofs.Rules.{in-file, at-most-two}
-use Rattle.block_rules.specs.Layouts.{headerBlock}
+use Rattle.block_rules.specs.Layouts.{unusedOf, headerBlock}
 use Rattle.block_rules.specs.Answers.{headerFit, headerRefusal, leftBy, headerLeft}
-use Rattle.block_rules.proofs.ReadBack.{zeros-long, kind-back, first-back, second-back, decimals-back, unused-back, ending-back, block-length, sound-back}
+use Rattle.block_rules.proofs.ReadBack.{zeros-long, kind-back, first-back, second-back, decimals-back, block-length, sound-back, record-unused-back}
+
+-- the zero bytes behind the scenario
+abbrev gap : List ℕ
+gap = unusedOf headerPieces
 
 pub header-length : (h : Header) → length (headerBlock h) ≡ 512
 unfolding headerBlock
-header-length h = block-length 1 0 (h .medium) (h .count) (scenarioDecimals (h .scenario)) (replicate 396 0) (zeros-long 12 396 refl)
+header-length h = block-length 1 0 (h .medium) (h .count) (scenarioDecimals (h .scenario)) gap (zeros-long scenarioPlaces (unusedBytes headerPieces) refl)
 
 module _ (h : Header) (fit : headerFit h ≡ true) (known : lacksFactor (h .scenario) ≡ false) where
   abbrev hb : List ℕ
@@ -60,54 +63,37 @@ module _ (h : Header) (fit : headerFit h ≡ true) (known : lacksFactor (h .scen
   decimals-good : allValid ds ≡ true
   decimals-good = and-split (oneOrTwo (h .medium)) (allValid ds) valid .1
 
-  read-decimals : decimalsAt hb 16 12 ≡ ds
+  read-decimals : decimalsAt hb 16 scenarioPlaces ≡ ds
   unfolding headerBlock
-  read-decimals = decimals-back 1 0 (h .medium) (h .count) ds (replicate 396 0) (all-fit ds decimals-good)
-
-  nth : (n : ℕ) → getD (decimalsAt hb 16 12) n zeroOf ≡ getD ds n zeroOf
-  nth n = ap (λ (l : List Decimal). getD l n zeroOf) read-decimals
+  read-decimals = decimals-back 1 0 (h .medium) (h .count) ds gap (all-fit ds decimals-good)
 
   read-scenario : scenarioAt hb 16 ≡ s
-  unfolding scenarioAt decimalsAt
-  read-scenario = λ i. record {
-    ef = nth 0 i;
-    ed = nth 1 i;
-    bw = nth 2 i;
-    at = nth 3 i;
-    ir = nth 4 i;
-    ira = nth 5 i;
-    pef = nth 6 i;
-    et = nth 7 i;
-    rf = nth 8 i;
-    sa = nth 9 i;
-    tr = nth 10 i;
-    thi = nth 11 i;
-  }
+  unfolding scenarioAt
+  read-scenario = ap scenarioOf read-decimals ∙ scenario-of s
 
   read-count : wordAt hb 12 ≡ h .count
   unfolding headerBlock
-  read-count = second-back 1 0 (h .medium) (h .count) ds (replicate 396 0) (omega (arith, in-file (h .count) counted))
+  read-count = second-back 1 0 (h .medium) (h .count) ds gap (omega (arith, in-file (h .count) counted))
 
   read-header : headerAt hb 8 ≡ h
   unfolding headerAt headerBlock
   read-header = λ i. record {
-    medium = first-back 1 0 (h .medium) (h .count) ds (replicate 396 0) (omega (arith, at-most-two (h .medium) medium-good)) i;
+    medium = first-back 1 0 (h .medium) (h .count) ds gap (omega (arith, at-most-two (h .medium) medium-good)) i;
     count = read-count i;
     scenario = read-scenario i;
   }
 
   unused : headerUnused hb 8 ≡ true
   unfolding headerUnused headerBlock
-  unused = ap₂ (λ (x y : Bool). x && y) (unused-back 1 0 (h .medium) (h .count) ds (replicate 396 0))
-      (zeros-rest hb _ 112 396 396 (ending-back 1 0 (h .medium) (h .count) ds (replicate 396 0) 96 refl) (omega arith))
+  unused = record-unused-back 1 0 (h .medium) (h .count) ds (unusedBytes headerPieces)
 
   sound : soundAt hb 0 ≡ true
   unfolding headerBlock
-  sound = sound-back 1 0 (h .medium) (h .count) ds (replicate 396 0) (zeros-long 12 396 refl) (omega arith)
+  sound = sound-back 1 0 (h .medium) (h .count) ds gap (zeros-long scenarioPlaces (unusedBytes headerPieces) refl) (omega arith)
 
   kind : wordAt hb 0 ≡ 1
   unfolding headerBlock
-  kind = kind-back 1 0 (h .medium) (h .count) ds (replicate 396 0) (omega arith)
+  kind = kind-back 1 0 (h .medium) (h .count) ds gap (omega arith)
 
   count-good : countOk (wordAt hb 12) (h .count + 1) ≡ true
   unfolding countOk

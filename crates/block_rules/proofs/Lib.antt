@@ -1,3 +1,5 @@
+pub mod Coverage
+pub mod Pieces
 pub mod Rules
 pub mod Found
 pub mod FieldRule

@@ -1,6 +1,6 @@
 -- A block that was written, read back word by word: first words, decimals, the bytes after them, the sum of its words. Assumes nothing.
 use mathlib.Core.Path.{_≡_, sym, ap, ap₂, _∙_}
-use mathlib.Core.List.{List, [], _++_, append-assoc, append-nil}
+use mathlib.Core.List.{List, [], _∷_, _++_, append-assoc, append-nil}
 use mathlib.Core.Bool.{Bool, true, _&&_}
 use Prim.Native.Nat.{ℕ, _+_, _*_, _-_, _<_, _%_}
 use native.Mathlib.Omega.{arith}
@@ -10,11 +10,12 @@ use borrow.Author.Tests.{eq-eqb}
 use Rattle.words.specs.Words.{wordAt, wordSum}
 use Rattle.words.specs.Bytes.{le4}
 use Rattle.words.proofs.Words.{le4-length, wordSum-suc, wordSum-front}
-use Rattle.words.proofs.ReadBack.{rest-next, word-rest}
+use Rattle.words.proofs.ReadBack.{rest-next, word-rest, zeros-rest}
 use Rattle.decimal.specs.declared.Decimal.{Decimal}
 use Rattle.decimal.specs.Decimal.{zeroOf}
 use Rattle.fields.specs.Fields.{fieldBytes, decimalsAt, unusedZero, InField}
 use Rattle.fields.proofs.ReadBack.{fieldBytes-length, decimals-rest, all-unused-rest}
+use Rattle.block_rules.specs.Pieces.{Word, Decimals, Unused, unusedIn}
 use Rattle.block_rules.specs.Reading.{soundAt}
 use Rattle.block_rules.specs.Layouts.{lastWord, firstWords, bodyOf, blockOf}
 use Rattle.block_rules.proofs.Lengths.{body-length}
@@ -86,8 +87,8 @@ module _ (kind place a b : ℕ) (ds : List Decimal) (rest : List ℕ) where
   pub unused-back : unusedZero block 16 (length ds) ≡ true
   unused-back = all-unused-rest ds block ending 16 at16
 
-  pub ending-back : (k : ℕ) → 8 * length ds ≡ k → drop (16 + k) block ≡ ending
-  ending-back k e = rest-next block (fieldBytes ds) ending 16 k at16 (fieldBytes-length ds ∙ e)
+  pub ending-back : drop (16 + 8 * length ds) block ≡ ending
+  ending-back = rest-next block (fieldBytes ds) ending 16 (8 * length ds) at16 (fieldBytes-length ds)
 
   -- ---- the whole
   module _ (long : 8 * length ds + length rest ≡ 492) where
@@ -106,3 +107,12 @@ module _ (kind place a b : ℕ) (ds : List Decimal) (rest : List ℕ) where
     unfolding soundAt
     sound-back h =
         ap₂ (λ (x y : Bool). x && y) (eq-eqb (wordSum block 128 % 4294967296) 0 block-sum) (eq-eqb (wordAt block 4) place (place-back h))
+
+-- two words, decimals and zero bytes: every byte that is unused there is zero
+pub record-unused-back : (kind place a b : ℕ) (ds : List Decimal) (k : ℕ)
+    → unusedIn (Word ∷ Word ∷ Decimals (length ds) ∷ Unused k ∷ []) (blockOf kind place a b ds (replicate k 0)) 8 ≡ true
+unfolding unusedIn
+record-unused-back kind place a b ds k =
+    let block = blockOf kind place a b ds (replicate k 0) in
+    let zero = zeros-rest block _ (16 + 8 * length ds) k k (ending-back kind place a b ds (replicate k 0)) (omega arith) in
+    ap₂ (λ (x y : Bool). x && (y && true)) (unused-back kind place a b ds (replicate k 0)) zero

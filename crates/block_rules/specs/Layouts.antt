@@ -9,6 +9,7 @@ use Rattle.fields.specs.Fields.{fieldBytes}
 use Rattle.inputs.specs.declared.Contaminant.{Contaminant}
 use Rattle.inputs.specs.Inputs.{scenarioDecimals, contaminantDecimals}
 use Rattle.block_rules.specs.declared.Header.{Header}
+use Rattle.block_rules.specs.Pieces.{Piece, headerPieces, contaminantPieces, resultPieces, summaryPieces, unusedBytes}
 use Rattle.guideline_rules.specs.declared.SideGuidelines.{SideGuidelines}
 use Rattle.sum_rules.specs.declared.SideSums.{SideSums}
 use Rattle.sum_rules.specs.Verdict.{verdictNumber}
@@ -29,20 +30,24 @@ bodyOf kind place a b ds rest = firstWords kind place a b ++ fieldBytes ds ++ re
 unfoldable pub blockOf : ℕ → ℕ → ℕ → ℕ → List Decimal → List ℕ → List ℕ
 blockOf kind place a b ds rest = bodyOf kind place a b ds rest ++ le4 (lastWord (bodyOf kind place a b ds rest))
 
+-- the zero bytes behind the fields
+abbrev pub unusedOf : List Piece → List ℕ
+unusedOf ps = replicate (unusedBytes ps) 0
+
 -- kind 1, header, place 0
 unfoldable pub headerBlock : Header → List ℕ
-headerBlock h = blockOf 1 0 (h .medium) (h .count) (scenarioDecimals (h .scenario)) (replicate 396 0)
+headerBlock h = blockOf 1 0 (h .medium) (h .count) (scenarioDecimals (h .scenario)) (unusedOf headerPieces)
 
 -- kind 2, contaminant
 unfoldable pub contaminantBlock : ℕ → Contaminant → List ℕ
-contaminantBlock place r = blockOf 2 place (r .class) (r .id) (contaminantDecimals r) (replicate 428 0)
+contaminantBlock place r = blockOf 2 place (r .class) (r .id) (contaminantDecimals r) (unusedOf contaminantPieces)
 
 -- kind 3, result: risk 1, 2, 3, total, then hazard likewise
 abbrev pub guidelineDecimals : SideGuidelines → SideGuidelines → List Decimal
 guidelineDecimals r h = r .first ∷ (r .second ∷ (r .third ∷ (r .total ∷ (h .first ∷ (h .second ∷ (h .third ∷ (h .total ∷ [])))))))
 
 unfoldable pub resultBlock : ℕ → ℕ → ℕ → SideGuidelines → SideGuidelines → List ℕ
-resultBlock place class id risk hazard = blockOf 3 place class id (guidelineDecimals risk hazard) (replicate 428 0)
+resultBlock place class id risk hazard = blockOf 3 place class id (guidelineDecimals risk hazard) (unusedOf resultPieces)
 
 -- kind 4, summary, place 0: lower and upper sums, at 48 the risk verdict, at 52 the hazard verdict
 abbrev pub summaryDecimals : SideSums → SideSums → List Decimal
@@ -50,4 +55,4 @@ summaryDecimals r h = r .lower ∷ (r .upper ∷ (h .lower ∷ (h .upper ∷ [])
 
 unfoldable pub summaryBlock : SideSums → SideSums → List ℕ
 summaryBlock risk hazard =
-    blockOf 4 0 0 0 (summaryDecimals risk hazard) (le4 (verdictNumber (risk .verdict)) ++ (le4 (verdictNumber (hazard .verdict)) ++ replicate 452 0))
+    blockOf 4 0 0 0 (summaryDecimals risk hazard) (le4 (verdictNumber (risk .verdict)) ++ (le4 (verdictNumber (hazard .verdict)) ++ unusedOf summaryPieces))

@@ -6,10 +6,11 @@ use lib.ListN.{length}
 use lib.Dec.{eqb, leb}
 use Rattle.outcome.specs.declared.Refusal.the-variants.{Length, Check, Kind, Field, Count, Factor, Order}
 use Rattle.outcome.specs.Outcome.{numberOf}
-use Rattle.words.specs.Words.{wordAt, wordSum, zeros}
-use Rattle.fields.specs.Fields.{decimalAt, unusedZero}
+use Rattle.words.specs.Words.{wordAt, wordSum}
+use Rattle.fields.specs.Fields.{decimalsAt}
 use Rattle.inputs.specs.declared.Scenario.{Scenario}
 use Rattle.inputs.specs.declared.Contaminant.{Contaminant}
+use Rattle.inputs.specs.Inputs.{scenarioPlaces, contaminantPlaces, scenarioOf, contaminantOf}
 use Rattle.inputs.specs.BuiltIn.{blank, noContaminant}
 use Rattle.inputs.specs.Rules.{scenarioFits, contaminantFits, lacksFactor}
 use Rattle.block_rules.specs.declared.Header.{Header}
@@ -18,23 +19,11 @@ use Rattle.block_rules.specs.declared.HeaderRead.the-variants as H
 use Rattle.block_rules.specs.declared.ContaminantRead.{ContaminantRead}
 use Rattle.block_rules.specs.declared.ContaminantRead.the-variants as C
 use Rattle.block_rules.specs.Rules.{countOk, blockSize}
+use Rattle.block_rules.specs.Pieces.{headerPieces, contaminantPieces, unusedIn}
 
--- EF ED BW AT IR IRA PEF ET RF SA TR THI from `at`
+-- the scenario whose first decimal stands at `at`
 unfoldable pub scenarioAt : List ℕ → ℕ → Scenario
-scenarioAt s at = record {
-  ef = decimalAt s at;
-  ed = decimalAt s (at + 8);
-  bw = decimalAt s (at + 16);
-  at = decimalAt s (at + 24);
-  ir = decimalAt s (at + 32);
-  ira = decimalAt s (at + 40);
-  pef = decimalAt s (at + 48);
-  et = decimalAt s (at + 56);
-  rf = decimalAt s (at + 64);
-  sa = decimalAt s (at + 72);
-  tr = decimalAt s (at + 80);
-  thi = decimalAt s (at + 88);
-}
+scenarioAt s at = scenarioOf (decimalsAt s at scenarioPlaces)
 
 -- a header whose medium stands at `at`: in a block at 8
 unfoldable pub headerAt : List ℕ → ℕ → Header
@@ -42,26 +31,15 @@ headerAt s at = record { medium = wordAt s at; count = wordAt s (at + 4); scenar
 
 -- its unused bytes are zero
 unfoldable pub headerUnused : List ℕ → ℕ → Bool
-headerUnused s at = unusedZero s (at + 8) 12 && zeros s (at + 104) 396
+headerUnused s at = unusedIn headerPieces s at
 
--- a contaminant whose class stands at `at`: in a block at 8; SFo SFi SFx RfDo RfDi VF PC C
+-- a contaminant whose class stands at `at`: in a block at 8
 unfoldable pub contaminantAt : List ℕ → ℕ → Contaminant
-contaminantAt s at = record {
-  class = wordAt s at;
-  id = wordAt s (at + 4);
-  sfo = decimalAt s (at + 8);
-  sfi = decimalAt s (at + 16);
-  sfx = decimalAt s (at + 24);
-  rfdo = decimalAt s (at + 32);
-  rfdi = decimalAt s (at + 40);
-  vf = decimalAt s (at + 48);
-  pc = decimalAt s (at + 56);
-  c = decimalAt s (at + 64);
-}
+contaminantAt s at = contaminantOf (wordAt s at) (wordAt s (at + 4)) (decimalsAt s (at + 8) contaminantPlaces)
 
 -- its unused bytes are zero
 unfoldable pub contaminantUnused : List ℕ → ℕ → Bool
-contaminantUnused s at = unusedZero s (at + 8) 8 && zeros s (at + 72) 428
+contaminantUnused s at = unusedIn contaminantPieces s at
 
 -- the 128 words of a block add to zero, and its place is right
 unfoldable pub soundAt : List ℕ → ℕ → Bool

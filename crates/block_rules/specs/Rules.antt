@@ -9,6 +9,10 @@ use Rattle.inputs.specs.Rules.{mostContaminants}
 abbrev pub blockSize : ℕ
 blockSize = 512
 
+-- bytes 8 to 507 of a block, which are a struct of the C library: without kind and place before them and the last word behind
+abbrev pub structSize : ℕ
+structSize = 500
+
 -- a count or a place: 1 to 120
 unfoldable pub inFile : ℕ → Bool
 inFile n = leb 1 n && leb n mostContaminants

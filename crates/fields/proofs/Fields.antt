@@ -1,13 +1,14 @@
 -- Fields in a part are those of the whole, and what the rule of several fields says. Assumes nothing.
 use mathlib.Core.Path.{_≡_, refl, sym, ap, ap₂, _∙_}
-use mathlib.Core.List.{List}
-use mathlib.Core.Bool.{Bool, true, false, _&&_}
+use mathlib.Core.List.{List, _∷_}
+use mathlib.Core.Bool.{Bool, true, false, _&&_, and-assoc}
 use Prim.Native.Nat.{ℕ, zero, suc, _+_, _*_, _-_, _≤_, _<_}
 use native.Mathlib.Nat.{add-assoc}
 use native.Mathlib.Omega.{arith}
 use lib.Dec.{eqb}
 use Rattle.words.specs.Words.{partOf}
 use Rattle.words.proofs.Parts.{getD-part, getD-part-add, word-part}
+use Rattle.decimal.specs.declared.Decimal.{Decimal}
 use Rattle.inputs.specs.Valid.{validOf, allValid}
 use Rattle.fields.specs.Fields.{halfAt, signedOf, decimalAt, decimalsAt, fieldOk, fieldsOk, unusedZero}
 
@@ -23,6 +24,13 @@ half-part-add s a n k j h = half-part s a n (k + j) h ∙ ap (halfAt s) (sym (ad
 pub decimal-part : (s : List ℕ) (a n k : ℕ) → k + 8 ≤ n → decimalAt (partOf s a n) k ≡ decimalAt s (a + k)
 unfolding decimalAt
 decimal-part s a n k h = λ i. record { m = word-part s a n k (omega arith) i; e = signedOf (half-part-add s a n k 4 (omega arith) i) }
+
+pub decimals-part : (s : List ℕ) (a n k m : ℕ) → k + 8 * m ≤ n → decimalsAt (partOf s a n) k m ≡ decimalsAt s (a + k) m
+unfolding decimalsAt
+decimals-part s a n k zero h = refl
+decimals-part s a n k (suc m) h =
+    ap₂ (λ (d : Decimal) (ds : List Decimal). d ∷ ds) (decimal-part s a n k (omega arith))
+    (decimals-part s a n (k + 8) m (omega arith) ∙ ap (λ (i : ℕ). decimalsAt s i m) (sym (add-assoc a k 8)))
 
 pub unused-part : (s : List ℕ) (a n k m : ℕ) → k + 8 * m ≤ n → unusedZero (partOf s a n) k m ≡ unusedZero s (a + k) m
 unfolding unusedZero
@@ -55,7 +63,3 @@ unused-step s at n i ok h =
     ap (λ (k : ℕ). (ok && eqb (halfAt s (at + 8 * i + 6)) 0) && unusedZero s k (n - (i + 1))) place
     ∙ and-assoc ok (eqb (halfAt s (at + 8 * i + 6)) 0) (unusedZero s (at + 8 * i + 8) (n - (i + 1)))
     ∙ ap (λ (k : ℕ). ok && unusedZero s (at + 8 * i) k) (sym left)
-  where
-    and-assoc : (a b x : Bool) → (a && b) && x ≡ a && (b && x)
-    and-assoc true b x = refl
-    and-assoc false b x = refl
