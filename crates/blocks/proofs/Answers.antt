@@ -10,6 +10,7 @@ use Rattle.outcome.specs.declared.Refusal.the-variants.{Length, Check, Kind, Fi
 use Rattle.words.specs.Words.{wordAt, partOf}
 use Rattle.words.proofs.Parts.{word-first}
 use Rattle.inputs.specs.declared.Contaminant.{Contaminant}
+use Rattle.inputs.specs.Inputs.{contaminantOf}
 use Rattle.inputs.specs.Rules.{scenarioFits, contaminantFits, lacksFactor}
 use Rattle.block_rules.specs.declared.Header.{Header}
 use Rattle.block_rules.specs.declared.HeaderRead.the-variants as H
@@ -69,7 +70,7 @@ module _ (b : List ℕ) (place previous : ℕ) where
     contaminant-field h = let f = rw is at h in simp (p .long, p .sound, p .first, f)
 
     id-is : (t : Bool) → leb (r .id) previous ≡ t → leb (wordAt b 12) previous ≡ t
-    unfolding contaminantAt
+    unfolding contaminantAt contaminantOf
     id-is t h = ap (λ (x : Contaminant). leb (x .id) previous) (sym is) ∙ h
 
     pub contaminant-order : contaminantFits r && contaminantUnused b 8 ≡ true → leb (r .id) previous ≡ true → C.Refused Order ≡ contaminantRead b place previous

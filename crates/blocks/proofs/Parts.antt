@@ -1,35 +1,25 @@
 -- What the 504 bytes between kind and last word hold is what the block holds. Assumes nothing.
 use mathlib.Core.Path.{_≡_, refl, sym, ap, _∙_}
 use mathlib.Core.List.{List}
-use mathlib.Core.Bool.{Bool, true, false, _&&_}
+use mathlib.Core.Bool.{Bool, true, false}
 use Prim.Native.Nat.{ℕ, _+_, _-_, _≤_, _<_}
 use native.Mathlib.Omega.{arith}
 use lib.ListN.{length, take, drop, length-take, length-drop}
 use lib.Dec.{eqb, leb}
 use borrow.Author.Tests.{ne-eqb, eqb-true, leb-true, leb-false}
 use Rattle.words.specs.Words.{partOf}
-use Rattle.words.proofs.Parts.{word-part, zeros-part, part-part}
-use Rattle.fields.proofs.Fields.{decimal-part, unused-part}
+use Rattle.words.proofs.Parts.{word-part, part-part}
+use Rattle.inputs.specs.Inputs.{scenarioPlaces, contaminantPlaces, scenarioOf, contaminantOf}
+use Rattle.fields.proofs.Fields.{decimals-part}
+use Rattle.block_rules.specs.Pieces.{headerPieces, contaminantPieces}
 use Rattle.block_rules.specs.Reading.{scenarioAt, headerAt, headerUnused, contaminantAt, contaminantUnused}
+use Rattle.block_rules.proofs.Pieces.{unused-in-part}
 use Rattle.block_rules.proofs.Rules.{is-block}
 
 module _ (b : List ℕ) where
   scenario-part : scenarioAt (partOf b 4 504) 12 ≡ scenarioAt b 16
   unfolding scenarioAt
-  scenario-part = λ i. record {
-    ef = decimal-part b 4 504 12 (omega arith) i;
-    ed = decimal-part b 4 504 20 (omega arith) i;
-    bw = decimal-part b 4 504 28 (omega arith) i;
-    at = decimal-part b 4 504 36 (omega arith) i;
-    ir = decimal-part b 4 504 44 (omega arith) i;
-    ira = decimal-part b 4 504 52 (omega arith) i;
-    pef = decimal-part b 4 504 60 (omega arith) i;
-    et = decimal-part b 4 504 68 (omega arith) i;
-    rf = decimal-part b 4 504 76 (omega arith) i;
-    sa = decimal-part b 4 504 84 (omega arith) i;
-    tr = decimal-part b 4 504 92 (omega arith) i;
-    thi = decimal-part b 4 504 100 (omega arith) i;
-  }
+  scenario-part = ap scenarioOf (decimals-part b 4 504 12 scenarioPlaces (omega arith))
 
   pub header-part : headerAt (partOf b 4 504) 4 ≡ headerAt b 8
   unfolding headerAt
@@ -37,26 +27,15 @@ module _ (b : List ℕ) where
 
   pub header-unused-part : headerUnused (partOf b 4 504) 4 ≡ headerUnused b 8
   unfolding headerUnused
-  header-unused-part = λ i. unused-part b 4 504 12 12 (omega arith) i && zeros-part b 4 504 108 396 (omega arith) i
+  header-unused-part = unused-in-part headerPieces b 4 504 4 (omega arith)
 
   pub contaminant-part : contaminantAt (partOf b 4 504) 4 ≡ contaminantAt b 8
   unfolding contaminantAt
-  contaminant-part = λ i. record {
-    class = word-part b 4 504 4 (omega arith) i;
-    id = word-part b 4 504 8 (omega arith) i;
-    sfo = decimal-part b 4 504 12 (omega arith) i;
-    sfi = decimal-part b 4 504 20 (omega arith) i;
-    sfx = decimal-part b 4 504 28 (omega arith) i;
-    rfdo = decimal-part b 4 504 36 (omega arith) i;
-    rfdi = decimal-part b 4 504 44 (omega arith) i;
-    vf = decimal-part b 4 504 52 (omega arith) i;
-    pc = decimal-part b 4 504 60 (omega arith) i;
-    c = decimal-part b 4 504 68 (omega arith) i;
-  }
+  contaminant-part = λ i. contaminantOf (word-part b 4 504 4 (omega arith) i) (word-part b 4 504 8 (omega arith) i) (decimals-part b 4 504 12 contaminantPlaces (omega arith) i)
 
   pub contaminant-unused-part : contaminantUnused (partOf b 4 504) 4 ≡ contaminantUnused b 8
   unfolding contaminantUnused
-  contaminant-unused-part = λ i. unused-part b 4 504 12 8 (omega arith) i && zeros-part b 4 504 76 428 (omega arith) i
+  contaminant-unused-part = unused-in-part contaminantPieces b 4 504 4 (omega arith)
 
 -- ---- parts of a site
 -- from kind to last word of the block at `at`

@@ -3,16 +3,23 @@ use block_rules::BLOCK_SIZE;
 use block_rules::ContaminantRead;
 use block_rules::Header;
 use block_rules::HeaderRead;
+use inputs::Contact;
 use inputs::Contaminant;
+use inputs::Exposure;
 use inputs::MOST_CONTAMINANTS;
 use inputs::Scenario;
+use inputs::Targets;
+use inputs::Toxicity;
+use inputs::Transfer;
 use outcome::Refusal;
 ghost use mathlib.Core.Path.{_≡_};
 ghost use Prim.Native.Nat.{_+_, _≤_};
 ghost use lib.Dec.{eqb};
 ghost use lib.ListN.{length};
 ghost use Rattle.words.specs.Words.{partOf};
-ghost use Rattle.block_rules.specs.Rules.{inFile, countOk, blockSize};
+ghost use Rattle.inputs.specs.Inputs.{exposureOf, contactOf, targetsOf, toxicityOf, transferOf};
+ghost use Rattle.fields.specs.Fields.{decimalsAt};
+ghost use Rattle.block_rules.specs.Rules.{inFile, countOk, blockSize, structSize};
 ghost use Rattle.block_rules.specs.Reading.{scenarioAt, headerAt, contaminantAt, headerUnused, contaminantUnused, soundAt, headerRead, contaminantRead};
 
 // Whether a count or a place is from 1 to 120.
@@ -53,30 +60,58 @@ fn sound(block: &[u8], place: u32) -> bool
     inputs::both(sum == 0, found == place)
 }
 
-// The scenario whose first factor stands at `at`.
-fn get_scenario(part: &[u8], at: usize) -> Scenario
-    requires { ⌜ (at ≤ 100) × (at + 96 ≤ length (now part)) ⌝ }
-    ensures { λ s. ⌜ s ≡ scenarioAt (now (part .entry)) at ⌝ }
+// The decimals of each group of a scenario, the first at `at`.
+fn get_exposure(part: &[u8], at: usize) -> Exposure
+    requires { ⌜ at + 32 ≤ length (now part) ⌝ }
+    ensures { λ x. ⌜ x ≡ exposureOf (decimalsAt (now (part .entry)) at 4) ⌝ }
 {
-    Scenario {
+    Exposure {
         ef: fields::read(part, at),
         ed: fields::read(part, at + 8),
         bw: fields::read(part, at + 16),
         at: fields::read(part, at + 24),
-        ir: fields::read(part, at + 32),
-        ira: fields::read(part, at + 40),
-        pef: fields::read(part, at + 48),
-        et: fields::read(part, at + 56),
-        rf: fields::read(part, at + 64),
-        sa: fields::read(part, at + 72),
-        tr: fields::read(part, at + 80),
-        thi: fields::read(part, at + 88),
     }
 }
 
-// The header whose medium stands at `at`: in the 504 bytes between kind and last word at 4.
+fn get_contact(part: &[u8], at: usize) -> Contact
+    requires { ⌜ at + 48 ≤ length (now part) ⌝ }
+    ensures { λ x. ⌜ x ≡ contactOf (decimalsAt (now (part .entry)) at 6) ⌝ }
+{
+    Contact {
+        ir: fields::read(part, at),
+        ira: fields::read(part, at + 8),
+        pef: fields::read(part, at + 16),
+        et: fields::read(part, at + 24),
+        rf: fields::read(part, at + 32),
+        sa: fields::read(part, at + 40),
+    }
+}
+
+fn get_targets(part: &[u8], at: usize) -> Targets
+    requires { ⌜ at + 16 ≤ length (now part) ⌝ }
+    ensures { λ x. ⌜ x ≡ targetsOf (decimalsAt (now (part .entry)) at 2) ⌝ }
+{
+    Targets {
+        tr: fields::read(part, at),
+        thi: fields::read(part, at + 8),
+    }
+}
+
+// The scenario whose first decimal stands at `at`.
+fn get_scenario(part: &[u8], at: usize) -> Scenario
+    requires { ⌜ at + 96 ≤ length (now part) ⌝ }
+    ensures { λ s. ⌜ s ≡ scenarioAt (now (part .entry)) at ⌝ }
+{
+    Scenario {
+        exposure: get_exposure(part, at),
+        contact: get_contact(part, at + 32),
+        targets: get_targets(part, at + 80),
+    }
+}
+
+// The header whose medium stands at `at`: in the 504 bytes between kind and last word at 4, in a struct of C at 0.
 pub fn get_header(part: &[u8], at: usize) -> Header
-    requires { ⌜ (at ≤ 90) × (at + 104 ≤ length (now part)) ⌝ }
+    requires { ⌜ at + 104 ≤ length (now part) ⌝ }
     ensures { λ h. ⌜ h ≡ headerAt (now (part .entry)) at ⌝ }
 {
     Header {
@@ -86,44 +121,63 @@ pub fn get_header(part: &[u8], at: usize) -> Header
     }
 }
 
-// Whether the unused bytes of a header are zero, in the 504 bytes between kind and last word.
-fn header_unused(part: &[u8]) -> bool
-    requires { ⌜ 504 ≤ length (now part) ⌝ }
-    ensures { λ b. ⌜ b ≡ headerUnused (now (part .entry)) 4 ⌝ }
+// Whether the unused bytes of a header are zero.
+pub fn header_unused(part: &[u8], at: usize) -> bool
+    requires { ⌜ at + structSize ≤ length (now part) ⌝ }
+    ensures { λ b. ⌜ b ≡ headerUnused (now (part .entry)) at ⌝ }
 {
     inputs::both(
-        fields::unused_zero(part, 12, 12),
-        words::all_zero(part, 108, 396),
+        fields::unused_zero(part, at + 8, 12),
+        words::all_zero(part, at + 104, 396),
     )
 }
 
-// The contaminant whose class stands at `at`: in the 504 bytes between kind and last word at 4.
+// The decimals of each group of a contaminant, the first at `at`.
+fn get_toxicity(part: &[u8], at: usize) -> Toxicity
+    requires { ⌜ at + 40 ≤ length (now part) ⌝ }
+    ensures { λ x. ⌜ x ≡ toxicityOf (decimalsAt (now (part .entry)) at 5) ⌝ }
+{
+    Toxicity {
+        sfo: fields::read(part, at),
+        sfi: fields::read(part, at + 8),
+        sfx: fields::read(part, at + 16),
+        rfdo: fields::read(part, at + 24),
+        rfdi: fields::read(part, at + 32),
+    }
+}
+
+fn get_transfer(part: &[u8], at: usize) -> Transfer
+    requires { ⌜ at + 16 ≤ length (now part) ⌝ }
+    ensures { λ x. ⌜ x ≡ transferOf (decimalsAt (now (part .entry)) at 2) ⌝ }
+{
+    Transfer {
+        vf: fields::read(part, at),
+        pc: fields::read(part, at + 8),
+    }
+}
+
+// The contaminant whose class stands at `at`: in the 504 bytes between kind and last word at 4, in a struct of C at 0.
 pub fn get_contaminant(part: &[u8], at: usize) -> Contaminant
-    requires { ⌜ (at ≤ 100) × (at + 72 ≤ length (now part)) ⌝ }
+    requires { ⌜ at + 72 ≤ length (now part) ⌝ }
     ensures { λ r. ⌜ r ≡ contaminantAt (now (part .entry)) at ⌝ }
 {
     Contaminant {
         class: words::word(part, at),
         id: words::word(part, at + 4),
-        sfo: fields::read(part, at + 8),
-        sfi: fields::read(part, at + 16),
-        sfx: fields::read(part, at + 24),
-        rfdo: fields::read(part, at + 32),
-        rfdi: fields::read(part, at + 40),
-        vf: fields::read(part, at + 48),
-        pc: fields::read(part, at + 56),
+        toxicity: get_toxicity(part, at + 8),
+        transfer: get_transfer(part, at + 48),
         c: fields::read(part, at + 64),
     }
 }
 
-// Whether the unused bytes of a contaminant are zero, in the same 504 bytes.
-fn contaminant_unused(part: &[u8]) -> bool
-    requires { ⌜ 504 ≤ length (now part) ⌝ }
-    ensures { λ b. ⌜ b ≡ contaminantUnused (now (part .entry)) 4 ⌝ }
+// Whether the unused bytes of a contaminant are zero.
+pub fn contaminant_unused(part: &[u8], at: usize) -> bool
+    requires { ⌜ at + structSize ≤ length (now part) ⌝ }
+    ensures { λ b. ⌜ b ≡ contaminantUnused (now (part .entry)) at ⌝ }
 {
     inputs::both(
-        fields::unused_zero(part, 12, 8),
-        words::all_zero(part, 76, 428),
+        fields::unused_zero(part, at + 8, 8),
+        words::all_zero(part, at + 72, 428),
     )
 }
 
@@ -143,7 +197,7 @@ pub fn read_header(site: &[u8], blocks: u32) -> HeaderRead
     let part = &site[4..508];
     let h = get_header(part, 4);
     let s = h.scenario;
-    if !inputs::both(inputs::scenario_fits(s, h.medium), header_unused(part)) {
+    if !inputs::both(inputs::scenario_fits(s, h.medium), header_unused(part, 4)) {
         return HeaderRead::Refused(Refusal::Field);
     }
     if !count_ok(h.count, blocks) {
@@ -173,7 +227,7 @@ pub fn read_contaminant(site: &[u8], at: usize, place: u32, previous: u32) -> Co
     let to = at + 508;
     let part = &site[from..to];
     let r = get_contaminant(part, 4);
-    if !inputs::both(inputs::contaminant_fits(r), contaminant_unused(part)) {
+    if !inputs::both(inputs::contaminant_fits(r), contaminant_unused(part, 4)) {
         return ContaminantRead::Refused(Refusal::Field);
     }
     if r.id <= previous {
