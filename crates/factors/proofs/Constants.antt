@@ -1,5 +1,5 @@
 -- The constants of the code are the working forms of the constants of the formulas. Assumes nothing.
-use mathlib.Core.Path.{_≡_, refl}
+use mathlib.Core.Path.{refl}
 use mathlib.Core.Logic.{inr}
 use Prim.Native.Nat.{ℕ}
 use lib.Dec.{lit<, lit≤}

@@ -1,9 +1,13 @@
 -- Numbers that stand for decimals: multiplied, divided and added they stand for the rounded results. Assumes nothing.
-use mathlib.Core.Path.{_≡_, refl, sym, ap, subst, _∙_}
+use mathlib.Core.Path.{_≡_, refl, sym, ap, ap₂, subst, _∙_}
 use mathlib.Core.Bool.{true}
+use mathlib.Core.List.{List, _∷_, _++_, map}
 use mathlib.Core.Logic.{inl, inr}
-use Prim.Native.Nat.{ℕ, _+_, _-_, _≤_}
+use Prim.Native.Nat.{ℕ, zero, suc, _+_, _-_, _≤_}
 use native.Mathlib.Omega.{arith}
+use lib.Dec.{lit<, lit≤}
+use lib.ListN.{getD}
+use Rattle.rounding.specs.Sizes.{bias}
 use Rattle.rounding.specs.declared.Direction.{Direction}
 use Rattle.rounding.specs.declared.Number.{Number}
 use Rattle.rounding.specs.Number.{Working}
@@ -13,14 +17,15 @@ use Rattle.rounding.proofs.ExactResults.{product-rounds, quotient-zero, quotien
 use Rattle.rounding.proofs.Exponents.{product-result, quotient-result, sum-result}
 use Rattle.rounding.proofs.NineDigits.{nine-result}
 use Rattle.decimal.specs.declared.Decimal.{Decimal}
-use Rattle.decimal.specs.Decimal.{biasedOf, decimalOf, mulOf, divOf, addOf, workingOf}
+use Rattle.decimal.specs.Decimal.{zeroOf, biasedOf, decimalOf, mulOf, divOf, addOf, workingOf}
 use Rattle.decimal.proofs.OperandFacts.{Operand}
 use Rattle.decimal.proofs.Laws.{decimal-zero, working-is, nine-working}
 use Rattle.decimal.proofs.CoreOperations.{mul-core, div-core, add-core}
 use Rattle.decimal.proofs.Approximation.{Sized, sized-of}
 use Rattle.inputs.specs.Valid.{validOf}
 use Rattle.inputs.proofs.Tests.{valid-small}
-use Rattle.factors.specs.Stands.{Stands}
+use Rattle.factors.specs.Stands.{Stands, StandAll, Inputs}
+use Rattle.factors.specs.Stands.StandAll.{end, next}
 use Rattle.factors.specs.Prepared.{Middle}
 use Rattle.decimal.proofs.Value.{Value, absent, known}
 
@@ -94,7 +99,8 @@ module _ (dir : Direction) {v w : ℕ} {p q r : Number} {a b : Decimal} (s : Sta
       })
 
 -- three factors
-pub stands-mul3 : (dir : Direction) {u v w : ℕ} {p q n r : Number} {a b c : Decimal} → Stands u p a → Stands v q b → Stands w n c → u + v + w ≤ 970 → r ≡ productOf dir (productOf dir p q) n → Stands (u + v + w + 2) r (mulOf (mulOf a b dir) c dir)
+pub stands-mul3 : (dir : Direction) {u v w : ℕ} {p q n r : Number} {a b c : Decimal} → Stands u p a → Stands v q b → Stands w n c → u + v + w ≤ 970 →
+    r ≡ productOf dir (productOf dir p q) n → Stands (u + v + w + 2) r (mulOf (mulOf a b dir) c dir)
 stands-mul3 dir {u} {v} {w} s t z h e = stands-most (omega arith) (stands-mul dir (stands-mul dir s t (omega arith) refl) z (omega arith) e)
 
 pub stands-value : {w : ℕ} {r : Number} {d : Decimal} → w ≤ 990 → Stands w r d → Value w d
@@ -117,3 +123,27 @@ number-stands d r v e =
       low = omega (arith, n .low, k .low);
       high = omega (arith, n .high, k .high);
     })
+
+-- ---- lists of numbers
+abbrev pub noNumber : Number
+noNumber = record { m = 0; x = bias - 8 }
+
+pub zero-stands : Stands 28 noNumber zeroOf
+zero-stands = record { is = refl; working = inl refl; most = lit< tt; low = lit≤ tt; high = lit≤ tt }
+
+pub stands-at : {ns : List Number} {ds : List Decimal} → StandAll ns ds → (k : ℕ) → Stands 28 (getD ns k noNumber) (getD ds k zeroOf)
+stands-at end k = zero-stands
+stands-at (next s ss) zero = s
+stands-at (next s ss) (suc k) = stands-at ss k
+
+pub stands-join : {ns ms : List Number} {ds es : List Decimal} → StandAll ns ds → StandAll ms es → StandAll (ns ++ ms) (ds ++ es)
+stands-join end t = t
+stands-join (next s ss) t = next s (stands-join ss t)
+
+pub all-own : {ns : List Number} {ds : List Decimal} → StandAll ns ds → Inputs ns
+all-own end = end
+all-own (next s ss) = next (stands-own s) (all-own ss)
+
+pub all-same : {ns : List Number} {ds : List Decimal} → StandAll ns ds → map decimalOf ns ≡ ds
+all-same end = refl
+all-same (next s ss) = ap₂ _∷_ (s .is) (all-same ss)

@@ -1,6 +1,6 @@
 -- What the code keeps of a scenario: the products that name no decimal of a contaminant.
-use mathlib.Core.List.{List, [], _∷_}
-use Prim.Native.Nat.{ℕ, _+_, _≤_, _<_}
+use mathlib.Core.List.{[], _∷_}
+use Prim.Native.Nat.{_+_, _≤_, _<_}
 use lib.IntN.{pos, negsuc}
 use Rattle.rounding.specs.Sizes.{tenDigits}
 use Rattle.rounding.specs.declared.Direction.{Direction}
@@ -43,8 +43,8 @@ unit = workingOf (record { m = 1; e = pos 0 })
 pub record PreparedFor (dir : Direction) (f : Factors) (p : Prepared) : Type 0 where
   pub same : p .factors ≡ f
   pub ready : ReadyFactors (p .factors)
-  pub lifetime : Stands 86 (p .lifetime) (productOf (opposite dir) (decimalOf (f .bw) ∷ decimalOf (f .at) ∷ days ∷ []))
-  pub soil-intake : Stands 86 (p .«soil_intake») (productOf dir (decimalOf (f .ir) ∷ millionth ∷ decimalOf (f .ef) ∷ []))
-  pub water-intake : Stands 57 (p .«water_intake») (productOf dir (decimalOf (f .ir) ∷ decimalOf (f .ef) ∷ []))
-  pub vapour-intake : Stands 86 (p .«vapour_intake») (productOf dir (decimalOf (f .ira) ∷ half ∷ decimalOf (f .ef) ∷ []))
-  pub inverse-pef : Stands 57 (p .«inverse_pef») (divOf unit (decimalOf (f .pef)) dir)
+  pub lifetime : Stands 86 (p .lifetime) (productOf (opposite dir) (decimalOf (f .exposure .bw) ∷ decimalOf (f .exposure .at) ∷ days ∷ []))
+  pub soil-intake : Stands 86 (p .«soil_intake») (productOf dir (decimalOf (f .contact .ir) ∷ millionth ∷ decimalOf (f .exposure .ef) ∷ []))
+  pub water-intake : Stands 57 (p .«water_intake») (productOf dir (decimalOf (f .contact .ir) ∷ decimalOf (f .exposure .ef) ∷ []))
+  pub vapour-intake : Stands 86 (p .«vapour_intake») (productOf dir (decimalOf (f .contact .ira) ∷ half ∷ decimalOf (f .exposure .ef) ∷ []))
+  pub inverse-pef : Stands 57 (p .«inverse_pef») (divOf unit (decimalOf (f .contact .pef)) dir)

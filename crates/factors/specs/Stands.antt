@@ -1,15 +1,27 @@
 -- A number of nine digits that stands for a working decimal, with the range of its exponent: what the code keeps of every value.
 use mathlib.Core.Path.{_≡_}
+use mathlib.Core.List.{List, [], _∷_, _++_, map}
 use Prim.Native.Nat.{ℕ, _+_, _≤_, _<_, _-_}
 use Rattle.rounding.specs.Sizes.{tenDigits, bias}
 use Rattle.rounding.specs.declared.Number.{Number}
 use Rattle.rounding.specs.Number.{Working}
 use Rattle.decimal.specs.declared.Decimal.{Decimal}
 use Rattle.decimal.specs.Decimal.{decimalOf, workingOf}
+use Rattle.inputs.specs.declared.Exposure.{Exposure}
+use Rattle.inputs.specs.declared.Contact.{Contact}
+use Rattle.inputs.specs.declared.Targets.{Targets}
 use Rattle.inputs.specs.declared.Scenario.{Scenario}
+use Rattle.inputs.specs.declared.Toxicity.{Toxicity}
+use Rattle.inputs.specs.declared.Transfer.{Transfer}
 use Rattle.inputs.specs.declared.Contaminant.{Contaminant}
+use Rattle.inputs.specs.Inputs.{exposureDecimals, contactDecimals, targetDecimals, toxicityDecimals, transferDecimals, scenarioDecimals, formulaDecimals}
+use Rattle.factors.specs.declared.numbers.ExposureNumbers.{ExposureNumbers}
+use Rattle.factors.specs.declared.numbers.ContactNumbers.{ContactNumbers}
+use Rattle.factors.specs.declared.numbers.TargetNumbers.{TargetNumbers}
 use Rattle.factors.specs.declared.numbers.Factors.{Factors}
-use Rattle.factors.specs.declared.numbers.Toxicity.{Toxicity}
+use Rattle.factors.specs.declared.numbers.ToxicityNumbers.{ToxicityNumbers}
+use Rattle.factors.specs.declared.numbers.TransferNumbers.{TransferNumbers}
+use Rattle.factors.specs.declared.numbers.ContaminantNumbers.{ContaminantNumbers}
 
 -- r is the decimal d, zero or of nine digits, its exponent within w of -8
 pub record Stands (w : ℕ) (r : Number) (d : Decimal) : Type 0 where
@@ -19,54 +31,65 @@ pub record Stands (w : ℕ) (r : Number) (d : Decimal) : Type 0 where
   pub low : (bias - 8) ≤ r .x + w
   pub high : r .x ≤ (bias - 8) + w
 
-pub record FactorsFor (s : Scenario) (f : Factors) : Type 0 where
-  pub ef : Stands 28 (f .ef) (workingOf (s .ef))
-  pub ed : Stands 28 (f .ed) (workingOf (s .ed))
-  pub bw : Stands 28 (f .bw) (workingOf (s .bw))
-  pub at : Stands 28 (f .at) (workingOf (s .at))
-  pub ir : Stands 28 (f .ir) (workingOf (s .ir))
-  pub ira : Stands 28 (f .ira) (workingOf (s .ira))
-  pub pef : Stands 28 (f .pef) (workingOf (s .pef))
-  pub et : Stands 28 (f .et) (workingOf (s .et))
-  pub rf : Stands 28 (f .rf) (workingOf (s .rf))
-  pub sa : Stands 28 (f .sa) (workingOf (s .sa))
-  pub tr : Stands 28 (f .tr) (workingOf (s .tr))
-  pub thi : Stands 28 (f .thi) (workingOf (s .thi))
-
-pub record ToxicityFor (r : Contaminant) (t : Toxicity) : Type 0 where
-  pub sfo : Stands 28 (t .sfo) (workingOf (r .sfo))
-  pub sfi : Stands 28 (t .sfi) (workingOf (r .sfi))
-  pub sfx : Stands 28 (t .sfx) (workingOf (r .sfx))
-  pub rfdo : Stands 28 (t .rfdo) (workingOf (r .rfdo))
-  pub rfdi : Stands 28 (t .rfdi) (workingOf (r .rfdi))
-  pub vf : Stands 28 (t .vf) (workingOf (r .vf))
-  pub pc : Stands 28 (t .pc) (workingOf (r .pc))
-  pub c : Stands 28 (t .c) (workingOf (r .c))
-
 -- a number that stands for a working decimal of an input
 abbrev pub Input : Number → Type 0
 Input r = Stands 28 r (decimalOf r)
 
-pub record ReadyFactors (f : Factors) : Type 0 where
-  pub ef : Input (f .ef)
-  pub ed : Input (f .ed)
-  pub bw : Input (f .bw)
-  pub at : Input (f .at)
-  pub ir : Input (f .ir)
-  pub ira : Input (f .ira)
-  pub pef : Input (f .pef)
-  pub et : Input (f .et)
-  pub rf : Input (f .rf)
-  pub sa : Input (f .sa)
-  pub tr : Input (f .tr)
-  pub thi : Input (f .thi)
+-- each number stands for the working decimal at its place
+pub data StandAll : List Number → List Decimal → Type 0 where
+  end : StandAll [] []
+  next : {n : Number} {d : Decimal} {ns : List Number} {ds : List Decimal} → Stands 28 n d → StandAll ns ds → StandAll (n ∷ ns) (d ∷ ds)
 
-pub record ReadyToxicity (t : Toxicity) : Type 0 where
-  pub sfo : Input (t .sfo)
-  pub sfi : Input (t .sfi)
-  pub sfx : Input (t .sfx)
-  pub rfdo : Input (t .rfdo)
-  pub rfdi : Input (t .rfdi)
-  pub vf : Input (t .vf)
-  pub pc : Input (t .pc)
-  pub c : Input (t .c)
+-- ---- the numbers of each group as a list, in the order of its decimals
+abbrev pub exposureNumbers : ExposureNumbers → List Number
+exposureNumbers n = n .ef ∷ (n .ed ∷ (n .bw ∷ (n .at ∷ [])))
+
+abbrev pub contactNumbers : ContactNumbers → List Number
+contactNumbers n = n .ir ∷ (n .ira ∷ (n .pef ∷ (n .et ∷ (n .rf ∷ (n .sa ∷ [])))))
+
+abbrev pub targetNumbers : TargetNumbers → List Number
+targetNumbers n = n .tr ∷ (n .thi ∷ [])
+
+abbrev pub factorNumbers : Factors → List Number
+factorNumbers f = exposureNumbers (f .exposure) ++ (contactNumbers (f .contact) ++ targetNumbers (f .targets))
+
+abbrev pub toxicityNumbers : ToxicityNumbers → List Number
+toxicityNumbers n = n .sfo ∷ (n .sfi ∷ (n .sfx ∷ (n .rfdo ∷ (n .rfdi ∷ []))))
+
+abbrev pub transferNumbers : TransferNumbers → List Number
+transferNumbers n = n .vf ∷ (n .pc ∷ [])
+
+abbrev pub contaminantNumbers : ContaminantNumbers → List Number
+contaminantNumbers t = toxicityNumbers (t .toxicity) ++ transferNumbers (t .transfer)
+
+-- ---- the numbers of an input's decimals
+abbrev pub ExposureFor : Exposure → ExposureNumbers → Type 0
+ExposureFor x n = StandAll (exposureNumbers n) (map workingOf (exposureDecimals x))
+
+abbrev pub ContactFor : Contact → ContactNumbers → Type 0
+ContactFor x n = StandAll (contactNumbers n) (map workingOf (contactDecimals x))
+
+abbrev pub TargetsFor : Targets → TargetNumbers → Type 0
+TargetsFor x n = StandAll (targetNumbers n) (map workingOf (targetDecimals x))
+
+abbrev pub FactorsFor : Scenario → Factors → Type 0
+FactorsFor s f = StandAll (factorNumbers f) (map workingOf (scenarioDecimals s))
+
+abbrev pub ToxicityFor : Toxicity → ToxicityNumbers → Type 0
+ToxicityFor x n = StandAll (toxicityNumbers n) (map workingOf (toxicityDecimals x))
+
+abbrev pub TransferFor : Transfer → TransferNumbers → Type 0
+TransferFor x n = StandAll (transferNumbers n) (map workingOf (transferDecimals x))
+
+abbrev pub NumbersFor : Contaminant → ContaminantNumbers → Type 0
+NumbersFor r t = StandAll (contaminantNumbers t) (map workingOf (formulaDecimals r))
+
+-- ---- numbers that stand for working decimals of inputs
+abbrev pub Inputs : List Number → Type 0
+Inputs ns = StandAll ns (map decimalOf ns)
+
+abbrev pub ReadyFactors : Factors → Type 0
+ReadyFactors f = Inputs (factorNumbers f)
+
+abbrev pub ReadyNumbers : ContaminantNumbers → Type 0
+ReadyNumbers t = Inputs (contaminantNumbers t)

@@ -64,11 +64,11 @@ pub fn prepare(f: Factors, dir: Direction) -> Prepared
     requires { ⌜ ReadyFactors f ⌝ }
     ensures { λ p. ⌜ PreparedFor dir f p ⌝ }
 {
-    let lifetime = product3(f.bw, f.at, DAYS, opposite(dir));
-    let soil_intake = product3(f.ir, MILLIONTH, f.ef, dir);
-    let water_intake = f.ir.mul(f.ef, dir);
-    let vapour_intake = product3(f.ira, HALF, f.ef, dir);
-    let inverse_pef = ONE.div(f.pef, dir);
+    let lifetime = product3(f.exposure.bw, f.exposure.at, DAYS, opposite(dir));
+    let soil_intake = product3(f.contact.ir, MILLIONTH, f.exposure.ef, dir);
+    let water_intake = f.contact.ir.mul(f.exposure.ef, dir);
+    let vapour_intake = product3(f.contact.ira, HALF, f.exposure.ef, dir);
+    let inverse_pef = ONE.div(f.contact.pef, dir);
     Prepared {
         factors: f,
         lifetime,

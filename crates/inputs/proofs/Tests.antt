@@ -49,6 +49,10 @@ valid-join (d ∷ ds) y = ap (λ (b : Bool). validOf d && b) (valid-join ds y) �
 pub valid-join3 : (x y z : List Decimal) → allValid (x ++ (y ++ z)) ≡ allValid x && (allValid y && allValid z)
 valid-join3 x y z = valid-join x (y ++ z) ∙ ap (λ (b : Bool). allValid x && b) (valid-join y z)
 
+-- valid decimals of two groups are valid in each
+pub valid-parts : (x y : List Decimal) → allValid (x ++ y) ≡ true → (allValid x ≡ true) × (allValid y ≡ true)
+valid-parts x y h = and-split (allValid x) (allValid y) (sym (valid-join x y) ∙ h)
+
 pub valid-append : (x y : List Decimal) → allValid x ≡ true → allValid y ≡ true → allValid (x ++ y) ≡ true
 valid-append [] y h k = k
 valid-append (d ∷ ds) y h k = let a = and-split (validOf d) (allValid ds) h in rw (a .0) (valid-append ds y (a .1) k)
