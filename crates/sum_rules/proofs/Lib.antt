@@ -1,4 +1,5 @@
 pub mod ShareBounds
+pub mod TakenIn
 pub mod Runs
 pub mod Verdicts
 pub mod NoPathway

@@ -1,6 +1,6 @@
 -- Refusal 9 is never sent back by the list call, and every sum that it reports has an e from -999 to 999. Assumes nothing.
 use mathlib.Core.Path.{_≡_, refl, sym, ap, _∙_}
-use mathlib.Core.Bool.{Bool, true, false, true≢false, false≢true, cond, not}
+use mathlib.Core.Bool.{Bool, true, false, false≢true, cond, not}
 use mathlib.Core.List.{List, [], _∷_}
 use Prim.Native.Nat.{ℕ, _+_, _≤_}
 use native.Mathlib.Omega.{arith}
@@ -9,7 +9,7 @@ use lib.ListN.{length}
 use borrow.Author.Tests.{eq-eqb, eqb-true, leb-true}
 use Rattle.decimal.proofs.Value.{Value, value-most, fair-value}
 use Rattle.outcome.specs.declared.Refusal.{Refusal}
-use Rattle.outcome.specs.declared.Refusal.the-variants.{Field, Order, Range}
+use Rattle.outcome.specs.declared.Refusal.the-variants.{Field, Order}
 use Rattle.outcome.specs.Outcome.{numberOf}
 use Rattle.outcome.proofs.Tests.{refused-number}
 use Rattle.inputs.specs.declared.Scenario.{Scenario}
@@ -23,8 +23,9 @@ use Rattle.guideline_rules.proofs.Accepted.{Fits, accepted-inputs}
 use Rattle.sum_rules.specs.declared.SideSums.{SideSums}
 use Rattle.sum_rules.specs.declared.SumsAnswer.{SumsAnswer}
 use Rattle.sum_rules.specs.Share.{Running, start, next, runAll}
-use Rattle.sum_rules.specs.ListCall.{blockRanged, refused, sideSums, firstTests, firstRefusal, walk, sumsOf}
+use Rattle.sum_rules.specs.ListCall.{blockRanged, refused, sideSums, firstTests, firstRefusal, takenIn, walk, sumsOf}
 use Rattle.sum_rules.specs.Promise.{sideAt}
+use Rattle.sum_rules.proofs.TakenIn.{taken-ranged}
 use Rattle.sum_rules.proofs.ShareBounds.{AllAccepted}
 use Rattle.sum_rules.proofs.ShareBounds.AllAccepted.{nobody, also}
 use Rattle.sum_rules.proofs.Runs.{first-passed, accepted-list}
@@ -53,27 +54,38 @@ not9 n = not (eqb n 9)
 never : (n : ℕ) → not9 n ≡ true → n ≡ 9 → ⊥
 never n h e = false≢true (sym (ap not (eq-eqb n 9 e)) ∙ h)
 
-record-never : (n : ℕ) (m : Refusal) (w : SumsAnswer) (a b c d : Bool) → (numberOf m ≡ 9 → ⊥) → (a ≡ true → d ≡ true) → (a ≡ true → numberOf (w .refusal) ≡ 9 → ⊥) →
-    numberOf (cond a (cond b (refused Order n) (cond c (cond d w (refused Range n)) (refused m n))) (refused Field n) .refusal) ≡ 9 → ⊥
-record-never n m w true false true true k e again h = again refl h
-record-never n m w true false true false k e again h = true≢false (sym (e refl))
-record-never n m w true false false d k e again h = k h
-record-never n m w true true c d k e again h = omega (arith, h)
-record-never n m w false b c d k e again h = omega (arith, h)
-
 record-told : (s : Scenario) (medium : ℕ) (r : Contaminant) → numberOf (recordRefusal s medium r) ≡ 9 → ⊥
 unfolding recordRefusal
 record-told s medium r = never _ (refused-number not9 refl (recordTests s medium r) refl)
 
+-- refused by a number that is not 9, or not refused
+abbrev pub Never : SumsAnswer → Type 0
+Never a = numberOf (a .refusal) ≡ 9 → ⊥
+
+one-of : (b : Bool) (v w : SumsAnswer) → Never v → Never w → Never (cond b v w)
+one-of true v w f g = f
+one-of false v w f g = g
+
+pub taken-never : (s : Scenario) (medium n : ℕ) (risk hazard : Running) (r : Contaminant) (w : SumsAnswer) → blockRanged s medium risk hazard r ≡ true →
+    Never w → Never (takenIn s medium n risk hazard r w)
+taken-never s medium n risk hazard r w e again h =
+    one-of (eqb (numberOf (recordRefusal s medium r)) 0) w (refused (recordRefusal s medium r) n) again (record-told s medium r)
+    (ap (λ (v : SumsAnswer). numberOf (v .refusal)) (sym (taken-ranged s medium n risk hazard r w e)) ∙ h)
+
 module _ (s : Scenario) (medium : ℕ) (fits : Fits s medium) where
+  record-never : (n : ℕ) (r : Contaminant) (risk hazard : Running) (w : SumsAnswer) (a b : Bool) → (a ≡ true → blockRanged s medium risk hazard r ≡ true) → (a ≡ true → Never w) →
+      Never (cond a (cond b (refused Order n) (takenIn s medium n risk hazard r w)) (refused Field n))
+  record-never n r risk hazard w true false e again h = taken-never s medium n risk hazard r w (e refl) (again refl) h
+  record-never n r risk hazard w true true e again h = omega (arith, h)
+  record-never n r risk hazard w false b e again h = omega (arith, h)
+
   walk-never : (rs : List Contaminant) (n before k : ℕ) (risk hazard : Running) → k + length rs ≤ mostContaminants → FairRun k risk → FairRun k hazard →
-      numberOf (walk s medium rs n before risk hazard .refusal) ≡ 9 → ⊥
+      Never (walk s medium rs n before risk hazard)
   unfolding walk
   walk-never [] n before k risk hazard h f g e = omega (arith, e)
   walk-never (r ∷ rs) n before k risk hazard h f g e =
-      record-never n (recordRefusal s medium r) (walk s medium rs (n + 1) (r .id) (next s medium Risk risk r) (next s medium Hazard hazard r))
-      (contaminantFits r) (leb (r .id) before) (eqb (numberOf (recordRefusal s medium r)) 0) (blockRanged s medium risk hazard r)
-      (record-told s medium r) (in-range s medium (fits .fits) (fits .factors) r (omega arith) f g)
+      record-never n r risk hazard (walk s medium rs (n + 1) (r .id) (next s medium Risk risk r) (next s medium Hazard hazard r))
+      (contaminantFits r) (leb (r .id) before) (in-range s medium (fits .fits) (fits .factors) r (omega arith) f g)
       (λ c. let a = accepted-inputs s medium r (fits .fits) (fits .factors) c in
       walk-never rs (n + 1) (r .id) (k + 1) (next s medium Risk risk r) (next s medium Hazard hazard r) (omega arith)
       (fair-next s medium Risk r a (omega arith) f) (fair-next s medium Hazard r a (omega arith) g))

@@ -13,7 +13,7 @@ use Rattle.decimal.specs.declared.Decimal.{Decimal}
 use Rattle.decimal.specs.Decimal.{zeroOf, addOf}
 use Rattle.decimal.specs.Lists.{added}
 use Rattle.outcome.specs.declared.Refusal.{Refusal}
-use Rattle.outcome.specs.declared.Refusal.the-variants.{Length, Field, Order, Range}
+use Rattle.outcome.specs.declared.Refusal.the-variants.{Length, Field, Order}
 use Rattle.outcome.specs.Outcome.{numberOf, test, refusedBy}
 use Rattle.inputs.specs.declared.Scenario.{Scenario}
 use Rattle.inputs.specs.declared.Contaminant.{Contaminant}
@@ -22,13 +22,14 @@ use Rattle.inputs.proofs.Tests.{and-split}
 use Rattle.formulas.specs.Side.{Side, Risk, Hazard}
 use Rattle.formulas.specs.Term.{formulasFor, valuesFor}
 use Rattle.formulas.specs.ExactTerm.{exactFor, anyPresent}
-use Rattle.guideline_rules.specs.Pathway.{hasPathway, recordRefusal}
+use Rattle.guideline_rules.specs.Pathway.{hasPathway}
 use Rattle.guideline_rules.proofs.Accepted.{Accepted, Fits, accepted-inputs, scenario-passed, values-of}
 use Rattle.guideline_rules.proofs.WorkedOut.{any-same}
 use Rattle.sum_rules.specs.declared.SumsAnswer.{SumsAnswer}
 use Rattle.sum_rules.specs.Share.{Running, start, next, runAll, shareOf}
-use Rattle.sum_rules.specs.ListCall.{blockRanged, refused, sideSums, accepted, firstRefusal, walk, sumsOf}
+use Rattle.sum_rules.specs.ListCall.{refused, sideSums, accepted, firstRefusal, takenIn, walk, sumsOf}
 use Rattle.sum_rules.specs.Promise.{somePathway, sideAt}
+use Rattle.sum_rules.proofs.TakenIn.{taken-passed}
 use Rattle.sum_rules.proofs.ShareBounds.{AllAccepted}
 use Rattle.sum_rules.proofs.ShareBounds.AllAccepted.{nobody, also}
 
@@ -74,19 +75,17 @@ record Walked (s : Scenario) (medium : ℕ) (rs : List Contaminant) (risk hazard
   all : AllAccepted s medium rs
   is : w ≡ accepted s (runAll s medium Risk risk rs) (runAll s medium Hazard hazard rs)
 
--- a record that is passed over: it keeps its rules, and the rest was walked
-step-cases : (s : Scenario) (medium : ℕ) (r : Contaminant) (rs : List Contaminant) (n : ℕ) (risk hazard : Running) (w : SumsAnswer) (a b c d : Bool) →
-    contaminantFits r ≡ a → eqb (numberOf (recordRefusal s medium r)) 0 ≡ c → Fits s medium →
-    (numberOf (w .refusal) ≡ 0 → Walked s medium rs (next s medium Risk risk r) (next s medium Hazard hazard r) w) →
-    numberOf (cond a (cond b (refused Order n) (cond c (cond d w (refused Range n)) (refused (recordRefusal s medium r) n))) (refused Field n) .refusal) ≡ 0 →
-    Walked s medium (r ∷ rs) risk hazard (cond a (cond b (refused Order n) (cond c (cond d w (refused Range n)) (refused (recordRefusal s medium r) n))) (refused Field n))
-step-cases s medium r rs n risk hazard w true false true true e k g again h =
-    let p = again h in
-    record { all = also (accepted-inputs s medium r (g .fits) (g .factors) e) (p .all); is = p .is }
-step-cases s medium r rs n risk hazard w true false true false e k g again h = absurd (omega (arith, h))
-step-cases s medium r rs n risk hazard w true false false d e k g again h = absurd (eqb-false (numberOf (recordRefusal s medium r)) 0 k h)
-step-cases s medium r rs n risk hazard w true true c d e k g again h = absurd (omega (arith, h))
-step-cases s medium r rs n risk hazard w false b c d e k g again h = absurd (omega (arith, h))
+-- a record that is taken in: it keeps its rules, and the rest was walked
+step-cases : (s : Scenario) (medium : ℕ) (r : Contaminant) (rs : List Contaminant) (n : ℕ) (risk hazard : Running) (w : SumsAnswer) (a b : Bool) →
+    contaminantFits r ≡ a → Fits s medium → (numberOf (w .refusal) ≡ 0 → Walked s medium rs (next s medium Risk risk r) (next s medium Hazard hazard r) w) →
+    numberOf (cond a (cond b (refused Order n) (takenIn s medium n risk hazard r w)) (refused Field n) .refusal) ≡ 0 →
+    Walked s medium (r ∷ rs) risk hazard (cond a (cond b (refused Order n) (takenIn s medium n risk hazard r w)) (refused Field n))
+step-cases s medium r rs n risk hazard w true false e g again h =
+    let t = taken-passed s medium n risk hazard r w h in
+    let p = again (ap (λ (v : SumsAnswer). numberOf (v .refusal)) (sym (t .is)) ∙ h) in
+    record { all = also (accepted-inputs s medium r (g .fits) (g .factors) e) (p .all); is = t .is ∙ p .is }
+step-cases s medium r rs n risk hazard w true true e g again h = absurd (omega (arith, h))
+step-cases s medium r rs n risk hazard w false b e g again h = absurd (omega (arith, h))
 
 walk-accepted : (s : Scenario) (medium : ℕ) → Fits s medium → (rs : List Contaminant) (n before : ℕ) (risk hazard : Running) →
     numberOf (walk s medium rs n before risk hazard .refusal) ≡ 0 → Walked s medium rs risk hazard (walk s medium rs n before risk hazard)
@@ -94,8 +93,8 @@ unfolding walk
 walk-accepted s medium g [] n before risk hazard h = record { all = nobody; is = refl }
 walk-accepted s medium g (r ∷ rs) n before risk hazard h =
     step-cases s medium r rs n risk hazard (walk s medium rs (n + 1) (r .id) (next s medium Risk risk r) (next s medium Hazard hazard r))
-    (contaminantFits r) (leb (r .id) before) (eqb (numberOf (recordRefusal s medium r)) 0) (blockRanged s medium risk hazard r)
-    refl refl g (walk-accepted s medium g rs (n + 1) (r .id) (next s medium Risk risk r) (next s medium Hazard hazard r)) h
+    (contaminantFits r) (leb (r .id) before) refl g
+    (walk-accepted s medium g rs (n + 1) (r .id) (next s medium Risk risk r) (next s medium Hazard hazard r)) h
 
 -- ---- an accepted list call
 pub record AcceptedList (s : Scenario) (medium : ℕ) (rs : List Contaminant) : Type 0 where

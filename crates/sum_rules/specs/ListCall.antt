@@ -65,17 +65,20 @@ firstTests s medium n = test Length (not (leb 1 n && leb n mostContaminants)) �
 unfoldable pub firstRefusal : Scenario → ℕ → ℕ → Refusal
 firstRefusal s medium n = refusedBy (firstTests s medium n)
 
--- ---- record by record, the n-th counting as block n: 4, 7, the tests of a record, 9
+-- ---- record by record, the n-th counting as block n: 4, 7, then
+-- the tests of a record and 9, or `again`, the answer with this record taken in
+unfoldable pub takenIn : Scenario → ℕ → ℕ → Running → Running → Contaminant → SumsAnswer → SumsAnswer
+takenIn s medium n risk hazard r again =
+    cond (eqb (numberOf (recordRefusal s medium r)) 0)
+    (cond (blockRanged s medium risk hazard r) again (refused Range n))
+    (refused (recordRefusal s medium r) n)
+
 unfoldable pub walk : Scenario → ℕ → List Contaminant → ℕ → ℕ → Running → Running → SumsAnswer
 walk s medium [] n before risk hazard = accepted s risk hazard
 walk s medium (r ∷ rs) n before risk hazard =
     cond (contaminantFits r)
     (cond (leb (r .id) before) (refused Order n)
-    (cond (eqb (numberOf (recordRefusal s medium r)) 0)
-    (cond (blockRanged s medium risk hazard r)
-    (walk s medium rs (n + 1) (r .id) (next s medium Risk risk r) (next s medium Hazard hazard r))
-    (refused Range n))
-    (refused (recordRefusal s medium r) n)))
+    (takenIn s medium n risk hazard r (walk s medium rs (n + 1) (r .id) (next s medium Risk risk r) (next s medium Hazard hazard r))))
     (refused Field n)
 
 -- in block 0 the tests before the first record, then the records
