@@ -7,7 +7,7 @@ use native.Mathlib.Numerals.{add-one}
 use lib.ListN.{length, take, drop, length-append}
 use Rattle.guideline_rules.specs.declared.SideGuidelines.{SideGuidelines}
 use Rattle.words.specs.Words.{wordAt, partOf}
-use Rattle.site_rules.specs.Site.{blockAt}
+use Rattle.site_rules.specs.Blocks.{blockAt}
 use Rattle.listing_rules.specs.Lines.{linesOf}
 use Rattle.listing_rules.proofs.Lengths.{lines-most}
 use Rattle.listing.specs.Asked.{sideRead, blockLines, blockLinesTo}

@@ -11,8 +11,9 @@ use borrow.Author.Tests.{eq-eqb, ne-eqb, le-leb, lt-leb}
 use Rattle.outcome.specs.Outcome.{numberOf}
 use Rattle.words.specs.Bytes.{over}
 use Rattle.sum_rules.specs.declared.SumsAnswer.{SumsAnswer}
+use Rattle.site_rules.specs.Blocks.{headerOf}
 use Rattle.site_rules.specs.Site.{siteAnswer}
-use Rattle.site_rules.specs.Results.{headerOf, siteLeft}
+use Rattle.site_rules.specs.Results.{siteLeft}
 use Rattle.site_rules.proofs.Opened.{site-long}
 use Rattle.listing_rules.specs.Lines.{sumLine, refusalLine}
 use Rattle.listing_rules.specs.Listing.{acceptedText, textOf, listingOf, textRoom, textLength, textLeft}

@@ -4,7 +4,7 @@ use mathlib.Core.List.{List, _++_}
 use Prim.Native.Nat.{ℕ, _+_, _*_, _≤_}
 use native.Mathlib.Omega.{arith}
 use lib.ListN.{length}
-use Rattle.site_rules.specs.Site.{blockAt}
+use Rattle.site_rules.specs.Blocks.{blockAt}
 use Rattle.words.specs.Bytes.{placed, over}
 use Rattle.words.proofs.Written.{Wrote, wrote-none, wrote-next, over-length}
 use Rattle.listing.specs.Asked.{blockLines, blockLinesTo}

@@ -16,8 +16,9 @@ use Rattle.guideline_rules.specs.declared.SideGuidelines.{SideGuidelines}
 use Rattle.guideline_rules.specs.Guideline.{guidelineOf}
 use Rattle.block_rules.proofs.ResultsBack.{ResultRead}
 use Rattle.site_rules.proofs.ReadBack.{site-result-back}
-use Rattle.site_rules.specs.Site.{blockAt, siteAnswer}
-use Rattle.site_rules.specs.Results.{headerOf, recordAt, siteLeft}
+use Rattle.site_rules.specs.Blocks.{blockAt, headerOf, recordAt}
+use Rattle.site_rules.specs.Site.{siteAnswer}
+use Rattle.site_rules.specs.Results.{siteLeft}
 use Rattle.site_rules.proofs.Passed.{PassedSite, passed-site}
 use Rattle.site_rules.proofs.OutputBlocks.{output-length}
 use Rattle.listing_rules.specs.Lines.{linesOf}

@@ -10,8 +10,7 @@ use Rattle.words.specs.Words.{wordAt}
 use Rattle.fields.specs.Fields.{decimalAt}
 use Rattle.guideline_rules.specs.declared.SideGuidelines.{SideGuidelines}
 use Rattle.sum_rules.specs.declared.SumsAnswer.{SumsAnswer}
-use Rattle.site_rules.specs.Site.{blockAt}
-use Rattle.site_rules.specs.Results.{headerOf}
+use Rattle.site_rules.specs.Blocks.{blockAt, headerOf}
 use Rattle.site_rules.specs.Passed.{Opened}
 use Rattle.listing_rules.specs.Lines.{linesOf, sumLine}
 use Rattle.listing_rules.specs.Listing.{linesTo}

@@ -13,8 +13,8 @@ use borrow.Author.Tests.{eqb-true}
 use Rattle.guideline_rules.specs.declared.SideGuidelines.{SideGuidelines}
 use Rattle.guideline_rules.specs.Guideline.{guidelineOf}
 use Rattle.inputs.specs.declared.Scenario.{Scenario}
+use Rattle.site_rules.specs.Blocks.{recordAt, headerOf}
 use Rattle.site_rules.specs.Site.{siteAnswer}
-use Rattle.site_rules.specs.Results.{recordAt, headerOf}
 use Rattle.sum_rules.specs.declared.SideSums.{SideSums}
 use Rattle.text.proofs.Numbers.{number-most}
 use Rattle.text.proofs.Decimals.{decimal-short}

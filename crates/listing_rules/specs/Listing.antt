@@ -9,8 +9,8 @@ use Rattle.inputs.specs.declared.Scenario.{Scenario}
 use Rattle.words.specs.Bytes.{over}
 use Rattle.guideline_rules.specs.Guideline.{guidelineOf}
 use Rattle.sum_rules.specs.declared.SumsAnswer.{SumsAnswer}
+use Rattle.site_rules.specs.Blocks.{headerOf, recordAt}
 use Rattle.site_rules.specs.Site.{siteAnswer}
-use Rattle.site_rules.specs.Results.{headerOf, recordAt}
 use Rattle.listing_rules.specs.Lines.{linesOf, sumLine, refusalLine}
 
 -- the lines of the contaminants at the places 1 to n

@@ -31,7 +31,8 @@ use Rattle.block_rules.specs.Answers.{headerFit, contaminantFit, headerRefusal,
 use Rattle.block_rules.proofs.HeaderBack.{header-length}
 use Rattle.block_rules.proofs.ContaminantBack.{contaminant-length}
 use Rattle.block_rules.proofs.ResultsBack.{ResultRead}
-use Rattle.site_rules.specs.Site.{blockAt, siteAnswer}
+use Rattle.site_rules.specs.Blocks.{blockAt}
+use Rattle.site_rules.specs.Site.{siteAnswer}
 use Rattle.site_rules.specs.Results.{siteLeft}
 use Rattle.site_rules.proofs.SingleSite.{single-answer, single-result}
 use Rattle.listing.specs.Asked.{sideRead}

@@ -28,8 +28,8 @@ use Rattle.shares.specs.Plan.{PlanReady, PlanFits, Workable, WorkedFor, Addable
 use Rattle.sums.specs.State.{RunsReady}
 use Rattle.shares.proofs.Plans.{inputs-of}
 use Rattle.sums.proofs.Steps.{next-runs, addable}
-use Rattle.site_rules.specs.Site.{blockAt}
-use Rattle.site_rules.specs.Results.{recordAt, resultAt}
+use Rattle.site_rules.specs.Blocks.{blockAt, recordAt}
+use Rattle.site_rules.specs.Results.{resultAt}
 use Rattle.site_rules.specs.Passed.{RecordOk}
 use Rattle.sums.specs.State.{NextRuns}
 

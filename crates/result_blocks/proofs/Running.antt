@@ -9,7 +9,7 @@ use Rattle.sum_rules.specs.Share.{Running, start, next, runAll}
 use Rattle.shares.specs.Plan.{runningOf, noRuns}
 use Rattle.sums.specs.State.{RunsReady}
 use Rattle.sums.proofs.States.{none-ready}
-use Rattle.site_rules.specs.Results.{recordAt, recordsFrom}
+use Rattle.site_rules.specs.Blocks.{recordAt, recordsFrom}
 use Rattle.sums.specs.State.{NextRuns}
 use Rattle.result_blocks.specs.Writing.{AllAdded}
 use Rattle.result_blocks.proofs.Turns.{run-turn, run-none}

@@ -5,7 +5,7 @@ use Prim.Native.Nat.{ℕ, suc, _+_, _-_, _≤_, _<_}
 use native.Mathlib.Omega.{arith}
 use Rattle.inputs.specs.declared.Scenario.{Scenario}
 use Rattle.sum_rules.specs.Share.{Running, next, runAll}
-use Rattle.site_rules.specs.Results.{recordAt, recordsFrom}
+use Rattle.site_rules.specs.Blocks.{recordAt, recordsFrom}
 
 module _ (s : Scenario) (medium : ℕ) (site : List ℕ) where
   pub run-turn : (side n k : ℕ) (t : Running) → k < n → runAll s medium side t (recordsFrom site (n - k) (k + 1)) ≡ runAll s medium side (next s medium side t (recordAt site (k + 1))) (recordsFrom site (n - (k + 1)) (k + 1 + 1))

@@ -13,7 +13,8 @@ use Rattle.sum_rules.specs.Share.{start, runAll}
 use Rattle.shares.specs.Plan.{PlanReady, PlanFits, runningOf}
 use Rattle.sums.specs.State.{RunsReady}
 use Rattle.block_rules.specs.Layouts.{summaryBlock}
-use Rattle.site_rules.specs.Results.{recordAt, resultsTo, recordsFrom}
+use Rattle.site_rules.specs.Blocks.{recordAt, recordsFrom}
+use Rattle.site_rules.specs.Results.{resultsTo}
 use Rattle.site_rules.specs.Passed.{RecordOk}
 
 -- a plan for the records of a site, all of them so

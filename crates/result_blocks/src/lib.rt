@@ -9,7 +9,8 @@ ghost use Prim.Native.Nat.{_+_, _*_, _≤_};
 ghost use lib.ListN.{length, take};
 ghost use Rattle.block_rules.specs.Rules.{blockSize};
 ghost use Rattle.words.specs.Bytes.{over};
-ghost use Rattle.site_rules.specs.Results.{recordAt, resultAt, resultsTo, recordsFrom, allSums};
+ghost use Rattle.site_rules.specs.Blocks.{recordAt, recordsFrom, allSums};
+ghost use Rattle.site_rules.specs.Results.{resultAt, resultsTo};
 ghost use Rattle.result_blocks.specs.Writing.{Writing, WritingOne, AllAdded, blocksOf};
 ghost use Rattle.sums.specs.State.{NextRuns};
 

@@ -16,8 +16,10 @@ use Rattle.sum_rules.specs.Share.{start}
 use Rattle.sum_rules.specs.ListCall.{refused}
 use Rattle.sum_rules.proofs.InRange.{fair-start}
 use Rattle.outcome.specs.declared.Answer.{Answer}
-use Rattle.site_rules.specs.Site.{walkBlocks, withRoom, siteAnswer}
-use Rattle.site_rules.specs.Results.{resultsOf, siteLeft, recordsFrom, allSums, recordAt}
+use Rattle.site_rules.specs.Blocks.{recordsFrom, allSums, recordAt}
+use Rattle.site_rules.specs.Site.{siteAnswer}
+use Rattle.site_rules.specs.Results.{resultsOf, siteLeft}
+use Rattle.site_rules.proofs.Walk.{walkBlocks, withRoom}
 use Rattle.site.specs.Check.{checkBlocks, Checking}
 use Rattle.result_blocks.specs.Writing.{blocksOf}
 use Rattle.site_rules.specs.Passed.{Opened, RecordOk}

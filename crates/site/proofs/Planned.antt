@@ -19,8 +19,9 @@ use Rattle.sum_rules.specs.declared.SumsAnswer.{SumsAnswer}
 use Rattle.shares.specs.Plan.{Begun}
 use Rattle.sums.proofs.Started.{plan-fits}
 use Rattle.outcome.specs.declared.Answer.{Answer}
+use Rattle.site_rules.specs.Blocks.{recordsFrom, allSums}
 use Rattle.site_rules.specs.Site.{siteAnswer}
-use Rattle.site_rules.specs.Results.{resultsTo, siteLeft, recordsFrom, allSums}
+use Rattle.site_rules.specs.Results.{resultsTo, siteLeft}
 use Rattle.site.specs.Check.{checkBlocks}
 use Rattle.result_blocks.specs.Writing.{Writing, blocksOf}
 use Rattle.site_rules.specs.Passed.{Opened}

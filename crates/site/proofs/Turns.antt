@@ -14,7 +14,7 @@ use Rattle.block_rules.specs.declared.ContaminantRead.the-variants as C
 use Rattle.block_rules.specs.Reading.{contaminantRead}
 use Rattle.sum_rules.specs.Share.{hasPathway}
 use Rattle.outcome.specs.declared.Answer.{Answer}
-use Rattle.site_rules.specs.Site.{blockAt}
+use Rattle.site_rules.specs.Blocks.{blockAt}
 use Rattle.site.specs.Check.{afterRead, checkBlocks}
 
 module _ (s : Scenario) (medium : ℕ) (site : List ℕ) where

@@ -24,8 +24,8 @@ use Rattle.sum_rules.specs.Share.{Running, next, runAll, hasPathway}
 use Rattle.sum_rules.specs.ListCall.{blockDecimals, refused, accepted, walk}
 use Rattle.sum_rules.proofs.InRange.{FairRun, fair-next, in-range}
 use Rattle.outcome.specs.declared.Answer.{Answer}
-use Rattle.site_rules.specs.Site.{blockAt, onContaminant, walkBlocks}
-use Rattle.site_rules.specs.Results.{recordAt, recordsFrom}
+use Rattle.site_rules.specs.Blocks.{blockAt, recordAt, recordsFrom}
+use Rattle.site_rules.proofs.Walk.{onContaminant, walkBlocks}
 use Rattle.site_rules.proofs.Opened.{found-record, found-is}
 use Rattle.site.specs.Check.{afterRead, checkBlocks}
 

@@ -16,7 +16,7 @@ use Rattle.block_rules.specs.declared.ContaminantRead.the-variants as C
 use Rattle.block_rules.specs.Reading.{contaminantRead}
 use Rattle.sum_rules.specs.Share.{hasPathway}
 use Rattle.outcome.specs.declared.Answer.{Answer}
-use Rattle.site_rules.specs.Site.{blockAt}
+use Rattle.site_rules.specs.Blocks.{blockAt}
 
 abbrev pub afterRead : ContaminantRead → (Refusal → Answer) → (Contaminant → Answer) → Answer
 afterRead (C.Refused n) f g = f n

@@ -1,3 +1,6 @@
+pub mod RightLength
+pub mod Walk
+pub mod WalkTable
 pub mod Opened
 pub mod Passed
 pub mod SameSums

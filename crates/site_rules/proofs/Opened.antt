@@ -2,11 +2,11 @@
 use mathlib.Core.Path.{_≡_, sym, ap, _∙_}
 use mathlib.Core.Bool.{Bool, true, false, cond, _&&_}
 use mathlib.Core.List.{List}
-use Prim.Native.Nat.{ℕ, _+_, _*_, _/_, _%_, _≤_}
+use Prim.Native.Nat.{ℕ, _+_, _*_, _/_, _≤_}
 use native.Mathlib.Omega.{arith}
-use lib.Dec.{eqb, leb}
+use lib.Dec.{eqb}
 use lib.ListN.{length}
-use borrow.Author.Tests.{eqb-true, ne-eqb, leb-true}
+use borrow.Author.Tests.{eqb-true, ne-eqb}
 use Rattle.outcome.specs.declared.Refusal.{Refusal}
 use Rattle.outcome.specs.declared.Refusal.the-variants.{Length}
 use Rattle.outcome.specs.Outcome.{numberOf}
@@ -21,25 +21,16 @@ use Rattle.block_rules.proofs.Found.{HeaderFacts, header-facts, ContaminantFact
 use Rattle.block_rules.proofs.Rules.{in-file}
 use Rattle.sum_rules.specs.declared.SumsAnswer.{SumsAnswer}
 use Rattle.sum_rules.specs.Share.{start}
-use Rattle.sum_rules.specs.ListCall.{refused, walk}
-use Rattle.site_rules.specs.Site.{lengthOk, blockAt, walkBlocks, withRoom, siteAnswer}
-use Rattle.site_rules.specs.Results.{headerOf, resultsOf, siteLeft, recordAt}
+use Rattle.sum_rules.specs.ListCall.{refused}
+use Rattle.site_rules.specs.Blocks.{lengthOk, blockAt, headerOf, recordAt}
+use Rattle.site_rules.specs.Site.{siteAnswer}
+use Rattle.site_rules.specs.Results.{resultsOf, siteLeft}
+use Rattle.site_rules.proofs.Walk.{walkBlocks, withRoom, walkedAnswer}
+use Rattle.site_rules.proofs.WalkTable.{walked}
+use Rattle.site_rules.proofs.RightLength.{right-length}
 use Rattle.site_rules.specs.Passed.{Opened}
 use Rattle.inputs.specs.declared.Contaminant.{Contaminant}
 use Rattle.block_rules.specs.declared.ContaminantRead.the-variants as C
-
--- ---- a site of the right length
-pub record RightLength (n : ℕ) : Type 0 where
-  pub least : 1024 ≤ n
-  pub most : n ≤ 61952
-  pub whole : n % 512 ≡ 0
-
-pub right-length : (n : ℕ) → lengthOk n ≡ true → RightLength n
-unfolding lengthOk
-right-length n h =
-    let a = and-split (leb 1024 n) (leb n 61952 && eqb (n % 512) 0) h in
-    let b = and-split (leb n 61952) (eqb (n % 512) 0) (a .1) in
-    record { least = leb-true 1024 n (a .0); most = leb-true n 61952 (b .0); whole = eqb-true (n % 512) 0 (b .1) }
 
 -- ---- a refusal leaves the output as it was
 pub left-refused : (site out : List ℕ) (a : SumsAnswer) → siteAnswer site (length out) ≡ a → (numberOf (a .refusal) ≡ 0 → ⊥) → siteLeft site out ≡ out
@@ -49,12 +40,13 @@ left-refused site out a e n =
     ap (λ (b : Bool). cond b (over (resultsOf site a) out) out) (ne-eqb (numberOf (a .refusal)) 0 n)
 
 pub answer-length : (site : List ℕ) (out : ℕ) → lengthOk (length site) ≡ false → siteAnswer site out ≡ refused Length 0
-unfolding siteAnswer
-answer-length site out e = rw e
+unfolding walkedAnswer
+answer-length site out e = walked site out ∙ rw e
 
-pub answer-header : (site : List ℕ) (out : ℕ) (m : Refusal) → lengthOk (length site) ≡ true → headerRead (blockAt site 0) (length site / 512) ≡ H.Refused m → siteAnswer site out ≡ refused m 0
-unfolding siteAnswer
-answer-header site out m e h = rw (e, h)
+pub answer-header : (site : List ℕ) (out : ℕ) (m : Refusal) → lengthOk (length site) ≡ true → headerRead (blockAt site 0) (length site / 512) ≡ H.Refused m →
+    siteAnswer site out ≡ refused m 0
+unfolding walkedAnswer
+answer-header site out m e h = walked site out ∙ rw (e, h)
 
 -- a contaminant that was found is the record of its block, and keeps its rules
 pub found-record : (site : List ℕ) (k before : ℕ) (r : Contaminant) → contaminantRead (blockAt site k) k before ≡ C.Found r → ContaminantFacts (blockAt site k) before r
@@ -97,5 +89,5 @@ module _ {site : List ℕ} {h : Header} (o : Opened site h) where
 
   -- the answer is that of the walk over its blocks, where there is room
   pub answer-walked : (out : ℕ) → siteAnswer site out ≡ withRoom (length site) out (walkBlocks (h .scenario) (h .medium) site (h .count) 1 0 start start)
-  unfolding siteAnswer
-  answer-walked out = rw (o .right, o .header)
+  unfolding walkedAnswer
+  answer-walked out = walked site out ∙ rw (o .right, o .header)

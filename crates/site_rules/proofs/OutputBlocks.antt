@@ -17,8 +17,9 @@ use Rattle.words.proofs.Written.{over-length}
 use Rattle.sum_rules.specs.declared.SumsAnswer.{SumsAnswer}
 use Rattle.block_rules.specs.Layouts.{summaryBlock}
 use Rattle.block_rules.proofs.ResultsBack.{result-length, summary-length}
-use Rattle.site_rules.specs.Site.{blockAt, siteAnswer}
-use Rattle.site_rules.specs.Results.{headerOf, resultAt, resultsTo, resultsOf, siteLeft}
+use Rattle.site_rules.specs.Blocks.{blockAt, headerOf}
+use Rattle.site_rules.specs.Site.{siteAnswer}
+use Rattle.site_rules.specs.Results.{resultAt, resultsTo, resultsOf, siteLeft}
 use Rattle.site_rules.proofs.Opened.{site-long, left-refused}
 use Rattle.site_rules.proofs.Passed.{passed-site}
 

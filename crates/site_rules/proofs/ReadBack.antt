@@ -5,7 +5,7 @@ use mathlib.Core.Bool.{Bool, true, false, cond}
 use mathlib.Core.List.{List, [], _∷_}
 use Prim.Native.Nat.{ℕ, zero, suc, _≤_, _<_}
 use native.Mathlib.Omega.{arith}
-use lib.Dec.{eqb, lit<}
+use lib.Dec.{eqb}
 use lib.IntN.{subℕ}
 use lib.ListN.{length, getD}
 use Rattle.rounding.specs.declared.Direction.{Direction}
@@ -26,8 +26,9 @@ use Rattle.inputs.specs.Inputs.{contaminantDecimals}
 use Rattle.inputs.specs.Valid.{allValid}
 use Rattle.inputs.specs.Rules.{oneOrTwo}
 use Rattle.inputs.proofs.Tests.{and-split}
-use Rattle.formulas.specs.Formula.{Formula, none, TR, THI, pathwaysOf}
-use Rattle.formulas.specs.Term.{look, termOf, totalOf, inputsOf, valuesOf}
+use Rattle.formulas.specs.Side.{Side, Risk, Hazard}
+use Rattle.formulas.specs.Formula.{Formula, none, TR, THI}
+use Rattle.formulas.specs.Term.{look, termOf, totalOf, formulasFor, valuesFor}
 use Rattle.fields.specs.Fields.{InField}
 use Rattle.guideline_rules.specs.declared.GuidelineAnswer.{GuidelineAnswer}
 use Rattle.guideline_rules.specs.Guideline.{sideOf, sideDecimals, allRanged, guidelineOf}
@@ -40,8 +41,9 @@ use Rattle.sum_rules.proofs.NeverOutOfRange.{RangedSums, sums-ranged}
 use Rattle.block_rules.specs.Layouts.{guidelineDecimals, summaryDecimals}
 use Rattle.block_rules.proofs.Rules.{at-most-two}
 use Rattle.block_rules.proofs.ResultsBack.{ResultRead, result-back, SummaryRead, summary-back}
-use Rattle.site_rules.specs.Site.{blockAt, siteAnswer}
-use Rattle.site_rules.specs.Results.{headerOf, recordAt, recordsFrom, resultAt, siteLeft}
+use Rattle.site_rules.specs.Blocks.{blockAt, headerOf, recordAt, recordsFrom}
+use Rattle.site_rules.specs.Site.{siteAnswer}
+use Rattle.site_rules.specs.Results.{resultAt, siteLeft}
 use Rattle.site_rules.proofs.Opened.{opened-fits, opened-known, count-most}
 use Rattle.site_rules.proofs.Passed.{PassedSite, passed-site, accepted-as}
 use Rattle.site_rules.proofs.SameSums.{site-sums}
@@ -92,11 +94,11 @@ value-fits : {w : ℕ} {d : Decimal} → Value w d → InField d
 value-fits (absent e) = record { word = rw e (omega arith); exponent = rw e }
 value-fits {w} {d} (known v) = record { word = omega (arith, v .nine .most); exponent = value-inside (known v) .inside }
 
-sums-fit : (a : SumsAnswer) → ((side : ℕ) → side < 2 → RangedSums (sideAt a side)) → (n : ℕ) → InField (getD (summaryDecimals (a .risk) (a .hazard)) n zeroOf)
-sums-fit a h zero = value-fits (h 0 (lit< tt) .lower)
-sums-fit a h (suc zero) = value-fits (h 0 (lit< tt) .upper)
-sums-fit a h (suc (suc zero)) = value-fits (h 1 (lit< tt) .lower)
-sums-fit a h (suc (suc (suc zero))) = value-fits (h 1 (lit< tt) .upper)
+sums-fit : (a : SumsAnswer) → ((side : Side) → RangedSums (sideAt a side)) → (n : ℕ) → InField (getD (summaryDecimals (a .risk) (a .hazard)) n zeroOf)
+sums-fit a h zero = value-fits (h Risk .lower)
+sums-fit a h (suc zero) = value-fits (h Risk .upper)
+sums-fit a h (suc (suc zero)) = value-fits (h Hazard .lower)
+sums-fit a h (suc (suc (suc zero))) = value-fits (h Hazard .upper)
 sums-fit a h (suc (suc (suc (suc n)))) = record { word = omega arith; exponent = refl }
 
 -- ---- an accepted site
@@ -116,7 +118,7 @@ module _ (site out : List ℕ) (z : numberOf (siteAnswer site (length out) .refu
       let a = siteAnswer site (length out) in
       let rs = recordsFrom site (headerOf site .count) 1 in
       let e = site-sums site (length out) z in
-      let ok = subst (λ (x : SumsAnswer). (side : ℕ) → side < 2 → RangedSums (sideAt x side)) (sym e) (sums-ranged s medium rs (accepted-as e z)) in
+      let ok = subst (λ (x : SumsAnswer). (side : Side) → RangedSums (sideAt x side)) (sym e) (sums-ranged s medium rs (accepted-as e z)) in
       rw (summary-block site out z) (summary-back (a .risk) (a .hazard) (sums-fit a ok))
 
   module _ (k : ℕ) (first : 1 ≤ k) (last : k ≤ headerOf site .count) where
@@ -125,13 +127,12 @@ module _ (site out : List ℕ) (z : numberOf (siteAnswer site (length out) .refu
 
     guidelines-fit : (n : ℕ) → InField (getD (guidelineDecimals (guidelineOf s medium r .risk) (guidelineOf s medium r .hazard)) n zeroOf)
     guidelines-fit =
-        let vs = valuesOf Up (inputsOf s r) in
+        let vs = valuesFor Up s r in
         let o = passed .opened in
         let a = accepted-inputs s medium r (opened-fits o) (opened-known o) (passed .records k first last .fits) in
         subst (λ (g : GuidelineAnswer). (n : ℕ) → InField (getD (guidelineDecimals (g .risk) (g .hazard)) n zeroOf))
         (sym (accepted-is s medium r (site-guidelines site (length out) z k first last)))
-        (all-fit vs (look vs TR) (look vs THI) (pathwaysOf medium (r .class) 0) (pathwaysOf medium (r .class) 1)
-        (ranged s medium r a 0 (lit< tt)) (ranged s medium r a 1 (lit< tt)))
+        (all-fit vs (look vs TR) (look vs THI) (formulasFor s medium r Risk) (formulasFor s medium r Hazard) (ranged s medium r a Risk) (ranged s medium r a Hazard))
 
     class-most : r .class ≤ 2
     class-most = at-most-two (r .class) (and-split (oneOrTwo (r .class)) _ (passed .records k first last .fits) .0)
@@ -143,4 +144,5 @@ module _ (site out : List ℕ) (z : numberOf (siteAnswer site (length out) .refu
     unfolding resultAt
     site-result-back =
         rw (result-block site out z k first last)
-        (result-back k (r .class) (r .id) (guidelineOf s medium r .risk) (guidelineOf s medium r .hazard) (omega (arith, count-most (passed .opened))) (omega (arith, class-most)) guidelines-fit)
+        (result-back k (r .class) (r .id) (guidelineOf s medium r .risk) (guidelineOf s medium r .hazard)
+        (omega (arith, count-most (passed .opened))) (omega (arith, class-most)) guidelines-fit)

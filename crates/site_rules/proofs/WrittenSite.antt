@@ -28,13 +28,16 @@ use Rattle.block_rules.proofs.HeaderBack.{header-length, header-back}
 use Rattle.block_rules.proofs.ContaminantBack.{contaminant-length, contaminant-read-back}
 use Rattle.sum_rules.specs.declared.SumsAnswer.{SumsAnswer}
 use Rattle.sum_rules.specs.Share.{Running, start, next}
-use Rattle.sum_rules.specs.ListCall.{refused, firstRefusal, walk, sumsOf}
-use Rattle.site_rules.specs.Site.{lengthOk, blockAt, onContaminant, walkBlocks, siteAnswer}
+use Rattle.sum_rules.specs.ListCall.{refused, firstRefusal, takenIn, walk, sumsOf}
+use Rattle.formulas.specs.Side.{Risk, Hazard}
+use Rattle.site_rules.specs.Blocks.{lengthOk, blockAt}
+use Rattle.site_rules.specs.Site.{siteAnswer}
+use Rattle.site_rules.proofs.Walk.{onContaminant, walkBlocks}
 use Rattle.site_rules.specs.Passed.{Opened}
 use Rattle.site_rules.specs.Written.{blocksFrom, siteOf, Writable}
 use Rattle.site_rules.specs.Written.Writable.{nobody, also}
 use Rattle.site_rules.proofs.Opened.{opened-fits, opened-known, count-some, count-most, answer-walked}
-use Rattle.site_rules.proofs.SameSums.{first-accepted, sums-walked, takenIn}
+use Rattle.site_rules.proofs.SameSums.{first-accepted, sums-walked}
 use Rattle.site_rules.proofs.Passed.{room-kept}
 
 -- ---- the walk over the blocks of a site that holds them from place k on
@@ -59,14 +62,16 @@ module _ (s : Scenario) (medium : ℕ) (site : List ℕ) where
   unfolding walkBlocks walk blocksFrom
   walk-written [] k before risk hazard nobody l u e = refl
   walk-written (r ∷ rs) k before risk hazard (also fits small all) l u e =
-      let x = next s medium 0 risk r in
-      let y = next s medium 1 hazard r in
+      let x = next s medium Risk risk r in
+      let y = next s medium Hazard hazard r in
       let place : 512 * k + 512 ≡ 512 * (k + 1) = omega arith in
       let behind : drop (512 * (k + 1)) site ≡ blocksFrom (k + 1) rs =
       ap (λ (n : ℕ). drop n site) (sym place) ∙ rest-next site (contaminantBlock k r) (blocksFrom (k + 1) rs) (512 * k) 512 e (contaminant-length k r) in
-      let taken : Contaminant → SumsAnswer = λ q. takenIn s medium k risk hazard q (walkBlocks s medium site (length rs) (k + 1) (q .id) (next s medium 0 risk q) (next s medium 1 hazard q)) in
+      let taken : Contaminant → SumsAnswer = λ q.
+      takenIn s medium k risk hazard q (walkBlocks s medium site (length rs) (k + 1) (q .id) (next s medium Risk risk q) (next s medium Hazard hazard q)) in
       rw fits
-      (ap (λ (q : ContaminantRead). onContaminant q (λ (m : Refusal). refused m k) taken) (block-read k before r (blocksFrom (k + 1) rs) e l (omega arith) fits small) ∙
+      (ap (λ (q : ContaminantRead). onContaminant q (λ (m : Refusal). refused m k) taken)
+      (block-read k before r (blocksFrom (k + 1) rs) e l (omega arith) fits small) ∙
       by-order k r taken (takenIn s medium k risk hazard r (walk s medium rs (k + 1) (r .id) x y))
       (ap (takenIn s medium k risk hazard r) (walk-written rs (k + 1) (r .id) x y all (omega arith) (omega arith) behind)) (leb (r .id) before))
 

@@ -1,24 +1,25 @@
--- The refusals of the site call as one table (docs/SPECIFICATION.md, "What is sent back"): each condition by its number, word and plain test, and all of
--- them in the order in which they are tried. The first that holds is sent back, with the block that was tested.
+-- The refusals of the site call as one table (docs/SPECIFICATION.md, "What is sent back"): each condition by its number, word and plain
+-- test, and all of them in the order in which they are tried. The first that holds is sent back, with the block that was tested.
 use mathlib.Core.Path.{_≡_}
-use mathlib.Core.Bool.{Bool, true, false, cond, not, _&&_, _||_}
-use mathlib.Core.List.{List, [], _∷_, _++_}
+use mathlib.Core.Bool.{Bool, true, false, cond, not, _&&_}
+use mathlib.Core.List.{List, [], _∷_, _++_, map}
 use Prim.Native.Nat.{ℕ, zero, suc, _+_, _/_}
 use lib.ListN.{length}
 use lib.Dec.{eqb, leb, ltb}
 use Rattle.outcome.specs.declared.Refusal.{Refusal}
-use Rattle.outcome.specs.declared.Refusal.the-variants.{Length, Check, Kind, Field, Count, Factor, Order, Pathway, Range, Room}
+use Rattle.outcome.specs.declared.Refusal.the-variants.{Length, Check, Kind, Field, Count, Factor, Order, Range, Room}
+use Rattle.outcome.specs.Outcome.{Test}
 use Rattle.words.specs.Words.{wordAt}
 use Rattle.inputs.specs.declared.Scenario.{Scenario}
 use Rattle.inputs.specs.Rules.{scenarioFits, lacksFactor, contaminantFits}
 use Rattle.block_rules.specs.Rules.{countOk, blockSize}
 use Rattle.block_rules.specs.Reading.{soundAt, headerUnused, contaminantUnused}
-use Rattle.guideline_rules.specs.Guideline.{allRanged}
+use Rattle.formulas.specs.Side.{Risk, Hazard}
+use Rattle.guideline_rules.specs.Pathway.{recordTests}
 use Rattle.sum_rules.specs.declared.SumsAnswer.{SumsAnswer}
-use Rattle.sum_rules.specs.Share.{Running, start, next, hasPathway}
-use Rattle.sum_rules.specs.ListCall.{blockDecimals, refused}
-use Rattle.site_rules.specs.Site.{lengthOk, blockAt}
-use Rattle.site_rules.specs.Results.{headerOf, recordAt}
+use Rattle.sum_rules.specs.Share.{Running, start, next}
+use Rattle.sum_rules.specs.ListCall.{blockRanged, refused}
+use Rattle.site_rules.specs.Blocks.{lengthOk, blockAt, headerOf, recordAt}
 
 -- a line of the table: what is sent back, the block that is tested, and whether the condition holds
 pub record Condition : Type 0 where
@@ -62,36 +63,38 @@ factorCondition site = condition Factor 0 (lacksFactor (headerOf site .scenario)
 abbrev pub orderCondition : List ℕ → ℕ → ℕ → Condition
 orderCondition site k before = condition Order k (leb (recordAt site k .id) before)
 
--- 8 Pathway: none on either side
-abbrev pub pathwayCondition : Scenario → ℕ → List ℕ → ℕ → Condition
-pathwayCondition s medium site k = condition Pathway k (not (hasPathway s medium (recordAt site k) 0 || hasPathway s medium (recordAt site k) 1))
+-- the tests of a record, 8 Pathway among them, in its block
+abbrev pub inBlock : ℕ → Test → Condition
+inBlock k t = condition (t .refusal) k (t .holds)
+
+abbrev pub recordConditions : Scenario → ℕ → List ℕ → ℕ → List Condition
+recordConditions s medium site k = map (inBlock k) (recordTests s medium (recordAt site k))
 
 -- 9 Range: an e outside -999 to 999 in that block's terms, guidelines, share or running sums
 abbrev pub rangeCondition : Scenario → ℕ → List ℕ → ℕ → Running → Running → Condition
-rangeCondition s medium site k risk hazard =
-    condition Range k (not (allRanged (blockDecimals s medium 0 risk (recordAt site k)) && allRanged (blockDecimals s medium 1 hazard (recordAt site k))))
+rangeCondition s medium site k risk hazard = condition Range k (not (blockRanged s medium risk hazard (recordAt site k)))
 
 -- 10 Room: output under the site's length
 abbrev pub roomCondition : List ℕ → ℕ → Condition
 roomCondition site out = condition Room 0 (ltb out (length site))
 
--- ---- their order: 1; the header 2 to 6; each later block 2, 3, 4, 7, 8, 9; last 10
+-- ---- their order: 1; the header 2 to 6; each later block 2, 3, 4, 7, the tests of a record, 9; last 10
 -- the header: 2, 3, 4, 5, 6
 unfoldable pub headerConditions : List ℕ → List Condition
 headerConditions site = checkCondition site 0 ∷ kindCondition 1 site 0 ∷ headerFieldCondition site ∷ countCondition site ∷ factorCondition site ∷ []
 
--- the block at place k, after the id `before` and with these sums so far: 2, 3, 4, 7, 8, 9
+-- the block at place k, after the id `before` and with these sums so far: 2, 3, 4, 7, the tests of a record, 9
 unfoldable pub blockConditions : Scenario → ℕ → List ℕ → ℕ → ℕ → Running → Running → List Condition
 blockConditions s medium site k before risk hazard =
     checkCondition site k ∷ kindCondition 2 site k ∷ blockFieldCondition site k ∷ orderCondition site k before ∷
-    pathwayCondition s medium site k ∷ rangeCondition s medium site k risk hazard ∷ []
+    recordConditions s medium site k ++ rangeCondition s medium site k risk hazard ∷ []
 
 -- n blocks, the first at place k: each after the id of the block before it, and with the sums over all blocks before it
 unfoldable pub laterConditions : Scenario → ℕ → List ℕ → ℕ → ℕ → ℕ → Running → Running → List Condition
 laterConditions s medium site zero k before risk hazard = []
 laterConditions s medium site (suc n) k before risk hazard =
     blockConditions s medium site k before risk hazard ++
-    laterConditions s medium site n (k + 1) (recordAt site k .id) (next s medium 0 risk (recordAt site k)) (next s medium 1 hazard (recordAt site k))
+    laterConditions s medium site n (k + 1) (recordAt site k .id) (next s medium Risk risk (recordAt site k)) (next s medium Hazard hazard (recordAt site k))
 
 -- the whole table of a site and an output of so many bytes
 unfoldable pub siteConditions : List ℕ → ℕ → List Condition

@@ -1,28 +1,17 @@
 -- What the site call leaves in the output: on acceptance a result block for each block of the site, otherwise what was there.
-use Prim.Native.Nat.{ℕ, zero, suc, _+_}
-use mathlib.Core.List.{List, [], _∷_, _++_}
+use Prim.Native.Nat.{ℕ, zero, suc}
+use mathlib.Core.List.{List, [], _++_}
 use mathlib.Core.Bool.{cond}
 use lib.ListN.{length}
 use lib.Dec.{eqb}
 use Rattle.outcome.specs.Outcome.{numberOf}
 use Rattle.inputs.specs.declared.Scenario.{Scenario}
-use Rattle.inputs.specs.declared.Contaminant.{Contaminant}
 use Rattle.words.specs.Bytes.{over}
-use Rattle.block_rules.specs.declared.Header.{Header}
-use Rattle.block_rules.specs.Reading.{headerAt, contaminantAt}
 use Rattle.guideline_rules.specs.Guideline.{guidelineOf}
 use Rattle.sum_rules.specs.declared.SumsAnswer.{SumsAnswer}
-use Rattle.sum_rules.specs.Share.{start, runAll}
-use Rattle.sum_rules.specs.ListCall.{accepted}
 use Rattle.block_rules.specs.Layouts.{resultBlock, summaryBlock}
-use Rattle.site_rules.specs.Site.{blockAt, siteAnswer}
-
--- what the block at place 0 and the one at place k hold
-unfoldable pub headerOf : List ℕ → Header
-headerOf site = headerAt (blockAt site 0) 8
-
-unfoldable pub recordAt : List ℕ → ℕ → Contaminant
-recordAt site k = contaminantAt (blockAt site k) 8
+use Rattle.site_rules.specs.Blocks.{headerOf, recordAt}
+use Rattle.site_rules.specs.Site.{siteAnswer}
 
 -- kind 3: same place, class and id, and the decimals of the single guideline
 unfoldable pub resultAt : Scenario → ℕ → List ℕ → ℕ → List ℕ
@@ -44,12 +33,3 @@ siteLeft site out =
     cond (eqb (numberOf (siteAnswer site (length out) .refusal)) 0)
     (over (resultsOf site (siteAnswer site (length out))) out)
     out
-
--- the records of n blocks, the first at place k
-unfoldable pub recordsFrom : List ℕ → ℕ → ℕ → List Contaminant
-recordsFrom site zero k = []
-recordsFrom site (suc n) k = recordAt site k ∷ recordsFrom site n (k + 1)
-
--- the answer that reports them
-abbrev pub allSums : Scenario → ℕ → List Contaminant → SumsAnswer
-allSums s medium rs = accepted s (runAll s medium 0 start rs) (runAll s medium 1 start rs)

@@ -54,7 +54,7 @@ not9 n = not (eqb n 9)
 never : (n : ℕ) → not9 n ≡ true → n ≡ 9 → ⊥
 never n h e = false≢true (sym (ap not (eq-eqb n 9 e)) ∙ h)
 
-record-told : (s : Scenario) (medium : ℕ) (r : Contaminant) → numberOf (recordRefusal s medium r) ≡ 9 → ⊥
+pub record-told : (s : Scenario) (medium : ℕ) (r : Contaminant) → numberOf (recordRefusal s medium r) ≡ 9 → ⊥
 unfolding recordRefusal
 record-told s medium r = never _ (refused-number not9 refl (recordTests s medium r) refl)
 

@@ -3,7 +3,7 @@ use mathlib.Core.Path.{_≡_, sym, ap, _∙_}
 use Prim.Native.Nat.{ℕ, _+_, _-_, _≤_}
 use native.Mathlib.Omega.{arith}
 use borrow.Author.Tests.{not-true, not-false}
-use Rattle.site_rules.specs.Site.{blockAt}
+use Rattle.site_rules.specs.Blocks.{blockAt}
 use Rattle.site.specs.Check.{checkBlocks}
 use Rattle.site_rules.proofs.Opened.{found-record}
 use Rattle.site.proofs.Turns.{turn-refused, turn-pathway, turn-next, check-none}

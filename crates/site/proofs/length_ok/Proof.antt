@@ -2,7 +2,7 @@
 use mathlib.Core.Bool.{and-assoc}
 use Prim.Native.Nat.{_%_}
 use lib.Dec.{eqb, leb}
-use Rattle.site_rules.specs.Site.{lengthOk}
+use Rattle.site_rules.specs.Blocks.{lengthOk}
 use borrow.Author.Needs.{needs}
 use Rattle.site.proofs.length_ok.Statement.{statement}
 use Rattle.site.proofs.length_ok.Tie as tie
