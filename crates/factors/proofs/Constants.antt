@@ -10,7 +10,7 @@ use Rattle.decimal.specs.declared.Decimal.{Decimal}
 use Rattle.decimal.specs.Decimal.{workingOf}
 use Rattle.factors.specs.Stands.{Stands}
 
-abbrev num : ℕ → ℕ → Number
+abbrev pub num : ℕ → ℕ → Number
 num m x = record { m = m; x = x }
 
 abbrev dec : ℕ → ℤ → Decimal

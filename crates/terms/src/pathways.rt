@@ -1,6 +1,7 @@
 // The terms of the three pathways on each side, for a chemical and for a radionuclide, in soil and in water. A term whose
-// pathway is absent is zero: a zero factor makes the product zero, and a zero divisor the quotient.
-use factors::numbers::Toxicity;
+// pathway is absent is zero: a zero factor makes the product zero, and a zero divisor the quotient. In each function e is the
+// exposure and k the contact of the scenario, x the toxicity of the contaminant.
+use factors::numbers::ContaminantNumbers;
 use factors::prepared::DAYS;
 use factors::prepared::HALF;
 use factors::prepared::MILLIONTH;
@@ -30,7 +31,7 @@ const YEARS_PER_HOUR: Number = Number {
 };
 
 // The terms of the three pathways of a side.
-pub struct Side {
+pub struct PathwayTerms {
     pub first: Number,
     pub second: Number,
     pub third: Number,
@@ -38,27 +39,29 @@ pub struct Side {
 
 // The terms of both sides.
 pub struct Terms {
-    pub risk: Side,
-    pub hazard: Side,
+    pub risk: PathwayTerms,
+    pub hazard: PathwayTerms,
 }
 
 // B = 1/VF + 1/PEF.
-fn air(p: Prepared, t: Toxicity, dir: Direction) -> Number
+fn air(p: Prepared, t: ContaminantNumbers, dir: Direction) -> Number
     requires { ⌜ Ready dir p t ⌝ }
     ensures { λ b. ⌜ Air dir p t b ⌝ }
 {
-    ONE.div(t.vf, dir).add(p.inverse_pef, dir)
+    ONE.div(t.transfer.vf, dir).add(p.inverse_pef, dir)
 }
 
 // Soil, chemical, risk: ingestion and inhalation.
-fn soil_chemical_risk(p: Prepared, t: Toxicity, b: Number, dir: Direction) -> Side
+fn soil_chemical_risk(p: Prepared, t: ContaminantNumbers, b: Number, dir: Direction) -> PathwayTerms
     requires { ⌜ Ready dir p t × Air dir p t b ⌝ }
     ensures { λ s. ⌜ SideFor dir (p .factors) t (pathwaysOf 1 1 0) s ⌝ }
 {
-    let f = p.factors;
-    let swallowed = product3(product3(t.sfo, f.ir, MILLIONTH, dir), f.ef, f.ed, dir);
-    let inhaled = product3(product3(t.sfi, f.ira, b, dir), f.ef, f.ed, dir);
-    Side {
+    let e = p.factors.exposure;
+    let k = p.factors.contact;
+    let x = t.toxicity;
+    let swallowed = product3(product3(x.sfo, k.ir, MILLIONTH, dir), e.ef, e.ed, dir);
+    let inhaled = product3(product3(x.sfi, k.ira, b, dir), e.ef, e.ed, dir);
+    PathwayTerms {
         first: swallowed.div(p.lifetime, dir),
         second: inhaled.div(p.lifetime, dir),
         third: Number::ZERO,
@@ -66,47 +69,59 @@ fn soil_chemical_risk(p: Prepared, t: Toxicity, b: Number, dir: Direction) -> Si
 }
 
 // Soil, chemical, hazard: ingestion and inhalation.
-fn soil_chemical_hazard(p: Prepared, t: Toxicity, b: Number, dir: Direction) -> Side
+fn soil_chemical_hazard(
+    p: Prepared,
+    t: ContaminantNumbers,
+    b: Number,
+    dir: Direction,
+) -> PathwayTerms
     requires { ⌜ Ready dir p t × Air dir p t b ⌝ }
     ensures { λ s. ⌜ SideFor dir (p .factors) t (pathwaysOf 1 1 1) s ⌝ }
 {
-    let f = p.factors;
+    let e = p.factors.exposure;
+    let k = p.factors.contact;
+    let x = t.toxicity;
     let back = opposite(dir);
-    let oral = product3(t.rfdo, f.bw, DAYS, back);
-    let inhaled = product3(t.rfdi, f.bw, DAYS, back);
-    Side {
+    let oral = product3(x.rfdo, e.bw, DAYS, back);
+    let inhaled = product3(x.rfdi, e.bw, DAYS, back);
+    PathwayTerms {
         first: p.soil_intake.div(oral, dir),
-        second: product3(f.ira, b, f.ef, dir).div(inhaled, dir),
+        second: product3(k.ira, b, e.ef, dir).div(inhaled, dir),
         third: Number::ZERO,
     }
 }
 
 // Soil, radionuclide, risk: ingestion, inhalation and external radiation.
-fn soil_radionuclide_risk(p: Prepared, t: Toxicity, dir: Direction) -> Side
+fn soil_radionuclide_risk(p: Prepared, t: ContaminantNumbers, dir: Direction) -> PathwayTerms
     requires { ⌜ Ready dir p t ⌝ }
     ensures { λ s. ⌜ SideFor dir (p .factors) t (pathwaysOf 1 2 0) s ⌝ }
 {
-    let f = p.factors;
-    let inhaled = product3(t.sfi.mul(f.ira, dir), f.ef, f.ed, dir);
-    let outdoors = product3(t.sfx, f.et, f.rf, dir).mul(YEARS_PER_HOUR, dir);
-    Side {
-        first: product3(product3(t.sfo, f.ir, MILLIONTH, dir), f.ef, f.ed, dir),
-        second: inhaled.div(f.pef, dir),
-        third: product3(outdoors, f.ef, f.ed, dir),
+    let e = p.factors.exposure;
+    let k = p.factors.contact;
+    let x = t.toxicity;
+    let inhaled = product3(x.sfi.mul(k.ira, dir), e.ef, e.ed, dir);
+    let outdoors = product3(x.sfx, k.et, k.rf, dir).mul(YEARS_PER_HOUR, dir);
+    PathwayTerms {
+        first: product3(product3(x.sfo, k.ir, MILLIONTH, dir), e.ef, e.ed, dir),
+        second: inhaled.div(k.pef, dir),
+        third: product3(outdoors, e.ef, e.ed, dir),
     }
 }
 
 // Water, chemical, risk: ingestion, vapour and skin.
-fn water_chemical_risk(p: Prepared, t: Toxicity, dir: Direction) -> Side
+fn water_chemical_risk(p: Prepared, t: ContaminantNumbers, dir: Direction) -> PathwayTerms
     requires { ⌜ Ready dir p t ⌝ }
     ensures { λ s. ⌜ SideFor dir (p .factors) t (pathwaysOf 2 1 0) s ⌝ }
 {
-    let f = p.factors;
-    let swallowed = product3(t.sfo.mul(f.ir, dir), f.ef, f.ed, dir);
-    let inhaled = product3(product3(t.sfi, f.ira, HALF, dir), f.ef, f.ed, dir);
-    let wet = product3(product3(t.sfo, f.sa, t.pc, dir), f.et, THOUSANDTH, dir);
-    let absorbed = product3(wet, f.ef, f.ed, dir);
-    Side {
+    let e = p.factors.exposure;
+    let k = p.factors.contact;
+    let x = t.toxicity;
+    let pc = t.transfer.pc;
+    let swallowed = product3(x.sfo.mul(k.ir, dir), e.ef, e.ed, dir);
+    let inhaled = product3(product3(x.sfi, k.ira, HALF, dir), e.ef, e.ed, dir);
+    let wet = product3(product3(x.sfo, k.sa, pc, dir), k.et, THOUSANDTH, dir);
+    let absorbed = product3(wet, e.ef, e.ed, dir);
+    PathwayTerms {
         first: swallowed.div(p.lifetime, dir),
         second: inhaled.div(p.lifetime, dir),
         third: absorbed.div(p.lifetime, dir),
@@ -114,16 +129,19 @@ fn water_chemical_risk(p: Prepared, t: Toxicity, dir: Direction) -> Side
 }
 
 // Water, chemical, hazard: ingestion, vapour and skin.
-fn water_chemical_hazard(p: Prepared, t: Toxicity, dir: Direction) -> Side
+fn water_chemical_hazard(p: Prepared, t: ContaminantNumbers, dir: Direction) -> PathwayTerms
     requires { ⌜ Ready dir p t ⌝ }
     ensures { λ s. ⌜ SideFor dir (p .factors) t (pathwaysOf 2 1 1) s ⌝ }
 {
-    let f = p.factors;
+    let e = p.factors.exposure;
+    let k = p.factors.contact;
+    let x = t.toxicity;
+    let pc = t.transfer.pc;
     let back = opposite(dir);
-    let oral = product3(t.rfdo, f.bw, DAYS, back);
-    let inhaled = product3(t.rfdi, f.bw, DAYS, back);
-    let absorbed = product3(product3(f.sa, t.pc, f.et, dir), THOUSANDTH, f.ef, dir);
-    Side {
+    let oral = product3(x.rfdo, e.bw, DAYS, back);
+    let inhaled = product3(x.rfdi, e.bw, DAYS, back);
+    let absorbed = product3(product3(k.sa, pc, k.et, dir), THOUSANDTH, e.ef, dir);
+    PathwayTerms {
         first: p.water_intake.div(oral, dir),
         second: p.vapour_intake.div(inhaled, dir),
         third: absorbed.div(oral, dir),
@@ -131,23 +149,25 @@ fn water_chemical_hazard(p: Prepared, t: Toxicity, dir: Direction) -> Side
 }
 
 // Water, radionuclide, risk: ingestion.
-fn water_radionuclide_risk(p: Prepared, t: Toxicity, dir: Direction) -> Side
+fn water_radionuclide_risk(p: Prepared, t: ContaminantNumbers, dir: Direction) -> PathwayTerms
     requires { ⌜ Ready dir p t ⌝ }
     ensures { λ s. ⌜ SideFor dir (p .factors) t (pathwaysOf 2 2 0) s ⌝ }
 {
-    let f = p.factors;
-    Side {
-        first: product3(t.sfo.mul(f.ir, dir), f.ef, f.ed, dir),
+    let e = p.factors.exposure;
+    let k = p.factors.contact;
+    let x = t.toxicity;
+    PathwayTerms {
+        first: product3(x.sfo.mul(k.ir, dir), e.ef, e.ed, dir),
         second: Number::ZERO,
         third: Number::ZERO,
     }
 }
 
 // No pathway.
-fn no_side() -> Side
+fn no_side() -> PathwayTerms
     ensures { λ s. ⌜ s ≡ noSide ⌝ }
 {
-    Side {
+    PathwayTerms {
         first: Number::ZERO,
         second: Number::ZERO,
         third: Number::ZERO,
@@ -155,7 +175,13 @@ fn no_side() -> Side
 }
 
 // The terms of both sides in a medium (1 soil, 2 water) for a class (1 chemical, 2 radionuclide).
-pub fn terms_of(p: Prepared, t: Toxicity, medium: u32, class: u32, dir: Direction) -> Terms
+pub fn terms_of(
+    p: Prepared,
+    t: ContaminantNumbers,
+    medium: u32,
+    class: u32,
+    dir: Direction,
+) -> Terms
     requires { ⌜ Ready dir p t × (OneOrTwo medium × OneOrTwo class) ⌝ }
     ensures { λ r. ⌜ TermsFor dir (p .factors) t medium class r ⌝ }
 {
@@ -186,7 +212,7 @@ pub fn terms_of(p: Prepared, t: Toxicity, medium: u32, class: u32, dir: Directio
 }
 
 // The sum of a side's terms, from the left.
-pub fn total(s: Side, dir: Direction) -> Number
+pub fn total(s: PathwayTerms, dir: Direction) -> Number
     requires { ⌜ WideSide s ⌝ }
     ensures { λ r. ⌜ (r ≡ sumOf dir (sumOf dir (s .first) (s .second)) (s .third)) × TotalSize r ⌝ }
 {

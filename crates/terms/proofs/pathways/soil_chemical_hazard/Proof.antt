@@ -1,74 +1,95 @@
 -- `terms::pathways::soil_chemical_hazard` meets its contract: each term is that of its formula in the table. Assumes nothing.
+use mathlib.Core.List.{List, [], _∷_}
+use Prim.Native.Nat.{ℕ}
 use lib.Dec.{lit≤}
-use Rattle.formulas.specs.Formula.{table, pathwaysOf, derived}
+use Rattle.decimal.specs.declared.Decimal.{Decimal}
+use Rattle.formulas.specs.Formula.{B, Days, EF, BW, IRA, RfDo, RfDi, table, pathwaysOf, derived}
+use Rattle.factors.specs.Stands.{Stands}
 use Rattle.terms.specs.Side.{numberValues}
-use Rattle.factors.proofs.StandsLaws.{stands-div, stands-middle, stands-mul3, stands-operand}
-use Rattle.factors.proofs.Constants.{days-stands}
-use Rattle.terms.proofs.NumberValues.{side-term, zero-stands, stands-turned}
+use Rattle.factors.proofs.StandsLaws.{zero-stands, stands-div, stands-middle, stands-mul3, stands-operand}
+use Rattle.terms.proofs.NumberValues.{named, namedBelow, input, middle, side-term, stands-turned}
 use borrow.Author.Needs.{needs}
 use Rattle.terms.proofs.pathways.soil_chemical_hazard.Statement.{statement}
 use Rattle.terms.proofs.pathways.soil_chemical_hazard.Tie as tie
 
+abbrev start : tie.After-x → tie.Start
+start c = c .before .before .before
+
+-- the product of the factors that are named
+abbrev product : tie.After-x → List ℕ → Decimal
+product c ns = let a = start c .args in named (a .dir) (a .p) (a .t) ns
+
+-- the product of a divisor
+abbrev divisor : tie.After-x → List ℕ → Decimal
+divisor c ns = let a = start c .args in namedBelow (a .dir) (a .p) (a .t) ns
+
+-- ---- what the code multiplies
+oral : (c : tie.After-product3) → Stands 86 (c .product3 .result) (divisor (c .before .before) (RfDo ∷ BW ∷ Days ∷ []))
+oral c =
+    let s = start (c .before .before) in
+    let r = input (s .pre .0) in
+    let back = c .before in
+    stands-turned (s .args .dir) (back .opposite .result) (back .opposite .ensures) (r RfDo) (r BW) (r Days) (lit≤ tt) (c .product3 .ensures .0)
+
+inhaled : (c : tie.After-product32) → Stands 86 (c .product32 .result) (divisor (c .before .before .before) (RfDi ∷ BW ∷ Days ∷ []))
+inhaled c =
+    let s = start (c .before .before .before) in
+    let r = input (s .pre .0) in
+    let back = c .before .before in
+    stands-turned (s .args .dir) (back .opposite .result) (back .opposite .ensures) (r RfDi) (r BW) (r Days) (lit≤ tt) (c .product32 .ensures .0)
+
+intake : (c : tie.After-product33) → Stands 116 (c .product33 .result) (product (c .before .before .before .before .before) (IRA ∷ B ∷ EF ∷ []))
+intake c =
+    let s = start (c .before .before .before .before .before) in
+    let r = input (s .pre .0) in
+    stands-mul3 (s .args .dir) (r IRA) (s .pre .1 .stands) (r EF) (lit≤ tt) (c .product33 .ensures .0)
+
+-- ---- what it may multiply and divide
 opposite-requires : tie.Need-opposite-requires
 opposite-requires c κs = search needs
 
 product3-requires : tie.Need-product3-requires
 product3-requires c κs =
-    let fac = c .before .before .pre .0 .prepared .ready in
-    let tox = c .before .before .pre .0 .toxicity in
-    (stands-middle (lit≤ tt) (tox .rfdo), (stands-middle (lit≤ tt) (fac .bw), stands-middle (lit≤ tt) days-stands))
+    let s = start (c .before) in
+    let r = middle (s .pre .0) in
+    (r RfDo, (r BW, r Days))
 
 product3-requires-2 : tie.Need-product3-requires-2
 product3-requires-2 c κs =
-    let fac = c .before .before .before .pre .0 .prepared .ready in
-    let tox = c .before .before .before .pre .0 .toxicity in
-    (stands-middle (lit≤ tt) (tox .rfdi), (stands-middle (lit≤ tt) (fac .bw), stands-middle (lit≤ tt) days-stands))
+    let s = start (c .before .before) in
+    let r = middle (s .pre .0) in
+    (r RfDi, (r BW, r Days))
 
 div-requires : tie.Need-div-requires
 div-requires c κs =
-    let fac = c .before .before .before .before .pre .0 .prepared .ready in
-    let tox = c .before .before .before .before .pre .0 .toxicity in
-    let prep = c .before .before .before .before .pre .0 .prepared in
-    let s-product3 = stands-turned (c .before .before .before .before .args .dir) (c .before .before .opposite .result) (c .before .before .opposite .ensures) (tox .rfdo) (fac .bw) days-stands (lit≤ tt) (c .before .product3 .ensures .0) in
-    (stands-operand (lit≤ tt) (prep .soil-intake) .range, stands-operand (lit≤ tt) s-product3 .range)
+    let s = start (c .before .before .before) in
+    (stands-operand (lit≤ tt) (s .pre .0 .prepared .soil-intake) .range, stands-operand (lit≤ tt) (oral (c .before)) .range)
 
 product3-requires-3 : tie.Need-product3-requires-3
 product3-requires-3 c κs =
-    let fac = c .before .before .before .before .before .pre .0 .prepared .ready in
-    let air = c .before .before .before .before .before .pre .1 in
-    (stands-middle (lit≤ tt) (fac .ira), (stands-middle (lit≤ tt) (air .stands), stands-middle (lit≤ tt) (fac .ef)))
+    let s = start (c .before .before .before .before) in
+    let r = middle (s .pre .0) in
+    (r IRA, (stands-middle (lit≤ tt) (s .pre .1 .stands), r EF))
 
 div-requires-2 : tie.Need-div-requires-2
 div-requires-2 c κs =
-    let fac = c .before .before .before .before .before .before .pre .0 .prepared .ready in
-    let tox = c .before .before .before .before .before .before .pre .0 .toxicity in
-    let air = c .before .before .before .before .before .before .pre .1 in
-    let s-product33 = stands-mul3 (c .before .before .before .before .before .before .args .dir) (fac .ira) (air .stands) (fac .ef) (lit≤ tt) (c .product33 .ensures .0) in
-    let s-product32 = stands-turned (c .before .before .before .before .before .before .args .dir) (c .before .before .before .before .opposite .result) (c .before .before .before .before .opposite .ensures) (tox .rfdi) (fac .bw) days-stands (lit≤ tt) (c .before .before .product32 .ensures .0) in
-    (stands-operand (lit≤ tt) s-product33 .range, stands-operand (lit≤ tt) s-product32 .range)
+    (stands-operand (lit≤ tt) (intake c) .range, stands-operand (lit≤ tt) (inhaled (c .before .before)) .range)
 
 returns : tie.Need-returns
 unfolding numberValues derived pathwaysOf table
 returns c =
-    let fac = c .before .before .before .before .before .before .before .pre .0 .prepared .ready in
-    let tox = c .before .before .before .before .before .before .before .pre .0 .toxicity in
-    let prep = c .before .before .before .before .before .before .before .pre .0 .prepared in
-    let air = c .before .before .before .before .before .before .before .pre .1 in
-    let s-product3 = stands-turned (c .before .before .before .before .before .before .before .args .dir) (c .before .before .before .before .before .opposite .result) (c .before .before .before .before .before .opposite .ensures) (tox .rfdo) (fac .bw) days-stands (lit≤ tt) (c .before .before .before .before .product3 .ensures .0) in
-    let s-quotient = stands-div (c .before .before .before .before .before .before .before .args .dir) (prep .soil-intake) s-product3 (lit≤ tt) (c .before .before .div .ensures .0) in
-    let s-product33 = stands-mul3 (c .before .before .before .before .before .before .before .args .dir) (fac .ira) (air .stands) (fac .ef) (lit≤ tt) (c .before .product33 .ensures .0) in
-    let s-product32 = stands-turned (c .before .before .before .before .before .before .before .args .dir) (c .before .before .before .before .before .opposite .result) (c .before .before .before .before .before .opposite .ensures) (tox .rfdi) (fac .bw) days-stands (lit≤ tt) (c .before .before .before .product32 .ensures .0) in
-    let s-quotient2 = stands-div (c .before .before .before .before .before .before .before .args .dir) s-product33 s-product32 (lit≤ tt) (c .div2 .ensures .0) in
-    record { first = side-term (c .before .before .before .before .before .before .before .args .dir) (c .before .before .before .before .before .before .before .args .p) (c .before .before .before .before .before .before .before .args .t) (c .before .before .before .before .before .before .before .pre .0) 1 1 1 0 (lit≤ tt) s-quotient; second = side-term (c .before .before .before .before .before .before .before .args .dir) (c .before .before .before .before .before .before .before .args .p) (c .before .before .before .before .before .before .before .args .t) (c .before .before .before .before .before .before .before .pre .0) 1 1 1 1 (lit≤ tt) s-quotient2; third = side-term (c .before .before .before .before .before .before .before .args .dir) (c .before .before .before .before .before .before .before .args .p) (c .before .before .before .before .before .before .before .args .t) (c .before .before .before .before .before .before .before .pre .0) 1 1 1 2 (lit≤ tt) zero-stands }
+    let at-intake = c .before in
+    let at-first = at-intake .before in
+    let at-inhaled = at-first .before in
+    let at-oral = at-inhaled .before in
+    let at-back = at-oral .before in
+    let s = start (at-back .before) in
+    let ready = s .pre .0 in
+    record {
+      first = side-term ready 1 1 1 0 (lit≤ tt) (stands-div (s .args .dir) (ready .prepared .soil-intake) (oral at-oral) (lit≤ tt) (at-first .div .ensures .0));
+      second = side-term ready 1 1 1 1 (lit≤ tt) (stands-div (s .args .dir) (intake at-intake) (inhaled at-inhaled) (lit≤ tt) (c .div2 .ensures .0));
+      third = side-term ready 1 1 1 2 (lit≤ tt) zero-stands;
+    }
 
 pub soil-chemical-hazard-spec : {M : Type 1} → statement M
-soil-chemical-hazard-spec =
-    tie.close
-    (tie.spec
-    opposite-requires
-    product3-requires
-    product3-requires-2
-    div-requires
-    product3-requires-3
-    div-requires-2
-    returns)
+soil-chemical-hazard-spec = tie.close (tie.spec opposite-requires product3-requires product3-requires-2 div-requires product3-requires-3 div-requires-2 returns)

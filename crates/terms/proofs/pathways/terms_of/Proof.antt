@@ -12,13 +12,25 @@ soil-radionuclide-risk-requires : tie.Need-soil-radionuclide-risk-requires
 soil-radionuclide-risk-requires c κs = search needs
 
 returns : tie.Need-returns
-returns c = terms-at (c .before .if2 .taken) (c .before .before .before .if1 .taken) (record { risk = c .soil-radionuclide-risk .ensures; hazard = no-soil-hazard (c .before .before .before .before .args .dir) (c .before .before .before .before .args .p .factors) (c .before .before .before .before .args .t) (c .before .before .no-side .ensures) })
+returns c =
+    let soil = c .before in
+    let none = soil .before in
+    let radionuclide = none .before in
+    let a = radionuclide .before .args in
+    terms-at (soil .if2 .taken) (radionuclide .if1 .taken) (record { risk = c .soil-radionuclide-risk .ensures; hazard = no-soil-hazard (a .dir) (a .p .factors) (a .t) (none .no-side .ensures) })
 
 water-radionuclide-risk-requires : tie.Need-water-radionuclide-risk-requires
 water-radionuclide-risk-requires c κs = search needs
 
 returns-2 : tie.Need-returns-2
-returns-2 c = terms-at (other-one (c .before .before .before .before .pre .1 .0) (c .before .if2 .left)) (c .before .before .before .if1 .taken) (record { risk = c .water-radionuclide-risk .ensures; hazard = no-water-hazard (c .before .before .before .before .args .dir) (c .before .before .before .before .args .p .factors) (c .before .before .before .before .args .t) (c .before .before .no-side .ensures) })
+returns-2 c =
+    let water = c .before in
+    let none = water .before in
+    let radionuclide = none .before in
+    let s = radionuclide .before in
+    let a = s .args in
+    let hazard = no-water-hazard (a .dir) (a .p .factors) (a .t) (none .no-side .ensures) in
+    terms-at (other-one (s .pre .1 .0) (water .if2 .left)) (radionuclide .if1 .taken) (record { risk = c .water-radionuclide-risk .ensures; hazard = hazard })
 
 air-requires : tie.Need-air-requires
 air-requires c κs = search needs
@@ -30,7 +42,12 @@ soil-chemical-hazard-requires : tie.Need-soil-chemical-hazard-requires
 soil-chemical-hazard-requires c κs = search needs
 
 returns-3 : tie.Need-returns-3
-returns-3 c = terms-at (c .before .before .before .if3 .taken) (other-two (c .before .before .before .before .before .pre .1 .1) (c .before .before .before .before .if1 .left)) (record { risk = c .before .soil-chemical-risk .ensures; hazard = c .soil-chemical-hazard .ensures })
+returns-3 c =
+    let risk = c .before in
+    let soil = risk .before .before in
+    let chemical = soil .before in
+    let class = chemical .before .pre .1 .1 in
+    terms-at (soil .if3 .taken) (other-two class (chemical .if1 .left)) (record { risk = risk .soil-chemical-risk .ensures; hazard = c .soil-chemical-hazard .ensures })
 
 water-chemical-risk-requires : tie.Need-water-chemical-risk-requires
 water-chemical-risk-requires c κs = search needs
@@ -39,7 +56,12 @@ water-chemical-hazard-requires : tie.Need-water-chemical-hazard-requires
 water-chemical-hazard-requires c κs = search needs
 
 returns-4 : tie.Need-returns-4
-returns-4 c = terms-at (other-one (c .before .before .before .before .pre .1 .0) (c .before .before .if3 .left)) (other-two (c .before .before .before .before .pre .1 .1) (c .before .before .before .if1 .left)) (record { risk = c .before .water-chemical-risk .ensures; hazard = c .water-chemical-hazard .ensures })
+returns-4 c =
+    let risk = c .before in
+    let water = risk .before in
+    let chemical = water .before in
+    let kinds = chemical .before .pre .1 in
+    terms-at (other-one (kinds .0) (water .if3 .left)) (other-two (kinds .1) (chemical .if1 .left)) (record { risk = risk .water-chemical-risk .ensures; hazard = c .water-chemical-hazard .ensures })
 
 pub terms-of-spec : {M : Type 1} → statement M
 terms-of-spec =

@@ -15,11 +15,17 @@ add-requires-2 c κs = search needs
 
 returns : tie.Need-returns
 returns c =
-    let a = c .before .add .ensures .1 in
+    let first = c .before in
+    let start = first .before in
+    let a = first .add .ensures .1 in
     let b = c .add2 .ensures .1 in
-    let p = c .before .before .pre in (
-      c .add2 .ensures .0 ∙ ap (λ (r : Number). sumOf (c .before .before .args .dir) r (c .before .before .args .s .third)) (c .before .add .ensures .0),
-      record { most = b .most; low = omega (arith, a .low, b .low, p .first .low, p .second .low, p .third .low); high = omega (arith, a .high, b .high, p .first .high, p .second .high, p .third .high) },
+    let p = start .pre in (
+      c .add2 .ensures .0 ∙ ap (λ (r : Number). sumOf (start .args .dir) r (start .args .s .third)) (first .add .ensures .0),
+      record {
+        most = b .most;
+        low = omega (arith, a .low, b .low, p .first .low, p .second .low, p .third .low);
+        high = omega (arith, a .high, b .high, p .first .high, p .second .high, p .third .high);
+      },
     )
 
 pub total-spec : {M : Type 1} → statement M
