@@ -62,24 +62,24 @@ module _ (sfo sfi rfdo rfdi : Bool) where
 -- ---- what the code tests is what the table asks
 module _ (s : Scenario) (r : Contaminant) where
   abbrev air : Bool
-  air = knownOf (s .ira) && (knownOf (r .vf) || knownOf (s .pef))
+  air = knownOf (s .contact .ira) && (knownOf (r .transfer .vf) || knownOf (s .contact .pef))
 
   abbrev skin : Bool
-  skin = knownOf (s .sa) && (knownOf (r .pc) && knownOf (s .et))
+  skin = knownOf (s .contact .sa) && (knownOf (r .transfer .pc) && knownOf (s .contact .et))
 
-  pub soil-chemical : chemicalOf r (knownOf (s .ir)) air ≡ eitherSide (knownValues s r) 1 1
+  pub soil-chemical : chemicalOf r (knownOf (s .contact .ir)) air ≡ eitherSide (knownValues s r) 1 1
   unfolding pathwaysOf table
-  soil-chemical = simp (and-true, or-false) (two-ways (knownOf (r .sfo)) (knownOf (r .sfi)) (knownOf (r .rfdo)) (knownOf (r .rfdi)) (knownOf (s .ir)) air)
+  soil-chemical = simp (and-true, or-false) (two-ways (knownOf (r .toxicity .sfo)) (knownOf (r .toxicity .sfi)) (knownOf (r .toxicity .rfdo)) (knownOf (r .toxicity .rfdi)) (knownOf (s .contact .ir)) air)
 
-  pub soil-radionuclide : knownOf (r .sfo) && knownOf (s .ir) || (knownOf (r .sfi) && (knownOf (s .ira) && knownOf (s .pef)) || knownOf (r .sfx) && (knownOf (s .et) && knownOf (s .rf))) ≡ eitherSide (knownValues s r) 1 2
+  pub soil-radionuclide : knownOf (r .toxicity .sfo) && knownOf (s .contact .ir) || (knownOf (r .toxicity .sfi) && (knownOf (s .contact .ira) && knownOf (s .contact .pef)) || knownOf (r .toxicity .sfx) && (knownOf (s .contact .et) && knownOf (s .contact .rf))) ≡ eitherSide (knownValues s r) 1 2
   unfolding pathwaysOf table
   soil-radionuclide = simp (and-true, or-false, and-assoc)
 
-  pub water-chemical : chemicalOf r (knownOf (s .ir) || skin) (knownOf (s .ira)) ≡ eitherSide (knownValues s r) 2 1
+  pub water-chemical : chemicalOf r (knownOf (s .contact .ir) || skin) (knownOf (s .contact .ira)) ≡ eitherSide (knownValues s r) 2 1
   unfolding pathwaysOf table
-  water-chemical = simp (and-true, or-false) (three-ways (knownOf (r .sfo)) (knownOf (r .sfi)) (knownOf (r .rfdo)) (knownOf (r .rfdi)) (knownOf (s .ir)) (knownOf (s .ira)) skin)
+  water-chemical = simp (and-true, or-false) (three-ways (knownOf (r .toxicity .sfo)) (knownOf (r .toxicity .sfi)) (knownOf (r .toxicity .rfdo)) (knownOf (r .toxicity .rfdi)) (knownOf (s .contact .ir)) (knownOf (s .contact .ira)) skin)
 
-  pub water-radionuclide : knownOf (r .sfo) && knownOf (s .ir) ≡ eitherSide (knownValues s r) 2 2
+  pub water-radionuclide : knownOf (r .toxicity .sfo) && knownOf (s .contact .ir) ≡ eitherSide (knownValues s r) 2 2
   unfolding pathwaysOf table
   water-radionuclide = simp (and-true, or-false)
 
@@ -92,7 +92,7 @@ module _ {s : Scenario} {medium : ℕ} {r : Contaminant} (h : Checked s medium r
   reps = values-of Up s medium r checked-inputs
 
   -- B is 1/VF + 1/PEF
-  b-known : knownOf (look (valuesOf Up (inputsOf s r)) B) ≡ knownOf (r .vf) || knownOf (s .pef)
+  b-known : knownOf (look (valuesOf Up (inputsOf s r)) B) ≡ knownOf (r .transfer .vf) || knownOf (s .contact .pef)
   unfolding derived exactValues exactTotal exactTerm exactPresent
   b-known =
       ap not (fair-zero (reps .own B)) ∙
@@ -102,10 +102,10 @@ module _ {s : Scenario} {medium : ℕ} {r : Contaminant} (h : Checked s medium r
   values-known : map knownOf (valuesOf Up (inputsOf s r)) ≡ knownValues s r
   unfolding valuesOf derived
   values-known =
-      let a = and-split (knownOf (s .ef)) _ (not-false _ (h .factors)) in
-      let b = and-split (knownOf (s .ed)) _ (a .1) in
-      let c = and-split (knownOf (s .bw)) _ (b .1) in
-      let d = and-split (knownOf (s .at)) _ (c .1) in
+      let a = and-split (knownOf (s .exposure .ef)) _ (not-false _ (h .factors)) in
+      let b = and-split (knownOf (s .exposure .ed)) _ (a .1) in
+      let c = and-split (knownOf (s .exposure .bw)) _ (b .1) in
+      let d = and-split (knownOf (s .exposure .at)) _ (c .1) in
       ap (λ (ks : List Bool). knownOf (look (valuesOf Up (inputsOf s r)) B) ∷ ks) (working-known (inputsOf s r) (inputs-valid s r (checked-inputs .scenario) (checked-inputs .contaminant))) ∙
       rw (b-known, a .0, b .0, c .0, d .0)
 

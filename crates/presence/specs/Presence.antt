@@ -7,7 +7,7 @@ use lib.ListN.{getD}
 use Rattle.decimal.specs.declared.Decimal.{Decimal}
 use Rattle.inputs.specs.declared.Scenario.{Scenario}
 use Rattle.inputs.specs.declared.Contaminant.{Contaminant}
-use Rattle.inputs.specs.Inputs.{contaminantDecimals}
+use Rattle.inputs.specs.Inputs.{formulaDecimals}
 use Rattle.formulas.specs.Formula.{Formula, pathwaysOf}
 use Rattle.formulas.specs.Term.{hasFactors}
 
@@ -18,12 +18,12 @@ knownOf d = not (eqb (d .m) 0)
 abbrev pub knownValues : Scenario → Contaminant → List Bool
 knownValues s r =
     -- B
-    (knownOf (r .vf) || knownOf (s .pef)) ∷
+    (knownOf (r .transfer .vf) || knownOf (s .contact .pef)) ∷
     -- the constants; EF, ED, BW, AT
     true ∷ true ∷ true ∷ true ∷ true ∷ true ∷ true ∷ true ∷ true ∷ true ∷
     -- IR, IRA, PEF, ET, RF, SA, TR, THI
-    knownOf (s .ir) ∷ knownOf (s .ira) ∷ knownOf (s .pef) ∷ knownOf (s .et) ∷ knownOf (s .rf) ∷ knownOf (s .sa) ∷ knownOf (s .tr) ∷ knownOf (s .thi) ∷
-    map knownOf (contaminantDecimals r)
+    knownOf (s .contact .ir) ∷ knownOf (s .contact .ira) ∷ knownOf (s .contact .pef) ∷ knownOf (s .contact .et) ∷ knownOf (s .contact .rf) ∷ knownOf (s .contact .sa) ∷ knownOf (s .targets .tr) ∷ knownOf (s .targets .thi) ∷
+    map knownOf (formulaDecimals r)
 
 -- as `known`, `presentOf` and `anyPathway`, over what is known of each name
 abbrev pub allKnown : List Bool → List ℕ → Bool
@@ -40,4 +40,4 @@ eitherSide ks medium class = someKnown ks (pathwaysOf medium class 0) || someKno
 
 -- a chemical, by what is known of the ways into the body: by the dose of each
 abbrev pub chemicalOf : Contaminant → Bool → Bool → Bool
-chemicalOf r swallowed breathed = swallowed && (knownOf (r .sfo) || knownOf (r .rfdo)) || breathed && (knownOf (r .sfi) || knownOf (r .rfdi))
+chemicalOf r swallowed breathed = swallowed && (knownOf (r .toxicity .sfo) || knownOf (r .toxicity .rfdo)) || breathed && (knownOf (r .toxicity .sfi) || knownOf (r .toxicity .rfdi))

@@ -29,8 +29,8 @@ fn all_three(a: bool, b: bool, c: bool) -> bool
 fn chemical(r: Contaminant, swallowed: bool, breathed: bool) -> bool
     ensures { λ b. ⌜ b ≡ chemicalOf r swallowed breathed ⌝ }
 {
-    let oral = either(r.sfo.m != 0, r.rfdo.m != 0);
-    let inhaled = either(r.sfi.m != 0, r.rfdi.m != 0);
+    let oral = either(r.toxicity.sfo.m != 0, r.toxicity.rfdo.m != 0);
+    let inhaled = either(r.toxicity.sfi.m != 0, r.toxicity.rfdi.m != 0);
     either(both(swallowed, oral), both(breathed, inhaled))
 }
 
@@ -38,17 +38,25 @@ fn chemical(r: Contaminant, swallowed: bool, breathed: bool) -> bool
 fn soil_chemical(s: Scenario, r: Contaminant) -> bool
     ensures { λ b. ⌜ b ≡ eitherSide (knownValues s r) 1 1 ⌝ }
 {
-    let air = either(r.vf.m != 0, s.pef.m != 0);
-    chemical(r, s.ir.m != 0, both(s.ira.m != 0, air))
+    let air = either(r.transfer.vf.m != 0, s.contact.pef.m != 0);
+    chemical(r, s.contact.ir.m != 0, both(s.contact.ira.m != 0, air))
 }
 
 // A radionuclide in soil: ingestion, inhalation and external radiation.
 fn soil_radionuclide(s: Scenario, r: Contaminant) -> bool
     ensures { λ b. ⌜ b ≡ eitherSide (knownValues s r) 1 2 ⌝ }
 {
-    let swallowed = both(r.sfo.m != 0, s.ir.m != 0);
-    let breathed = all_three(r.sfi.m != 0, s.ira.m != 0, s.pef.m != 0);
-    let outdoors = all_three(r.sfx.m != 0, s.et.m != 0, s.rf.m != 0);
+    let swallowed = both(r.toxicity.sfo.m != 0, s.contact.ir.m != 0);
+    let breathed = all_three(
+        r.toxicity.sfi.m != 0,
+        s.contact.ira.m != 0,
+        s.contact.pef.m != 0,
+    );
+    let outdoors = all_three(
+        r.toxicity.sfx.m != 0,
+        s.contact.et.m != 0,
+        s.contact.rf.m != 0,
+    );
     either(swallowed, either(breathed, outdoors))
 }
 
@@ -56,15 +64,19 @@ fn soil_radionuclide(s: Scenario, r: Contaminant) -> bool
 fn water_chemical(s: Scenario, r: Contaminant) -> bool
     ensures { λ b. ⌜ b ≡ eitherSide (knownValues s r) 2 1 ⌝ }
 {
-    let skin = all_three(s.sa.m != 0, r.pc.m != 0, s.et.m != 0);
-    chemical(r, either(s.ir.m != 0, skin), s.ira.m != 0)
+    let skin = all_three(
+        s.contact.sa.m != 0,
+        r.transfer.pc.m != 0,
+        s.contact.et.m != 0,
+    );
+    chemical(r, either(s.contact.ir.m != 0, skin), s.contact.ira.m != 0)
 }
 
 // A radionuclide in water: ingestion.
 fn water_radionuclide(s: Scenario, r: Contaminant) -> bool
     ensures { λ b. ⌜ b ≡ eitherSide (knownValues s r) 2 2 ⌝ }
 {
-    both(r.sfo.m != 0, s.ir.m != 0)
+    both(r.toxicity.sfo.m != 0, s.contact.ir.m != 0)
 }
 
 // Whether a contaminant has a pathway on either side in a medium (1 soil, 2 water): refusal 8.
