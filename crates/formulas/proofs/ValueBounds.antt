@@ -42,7 +42,7 @@ pub data Front (dir : Direction) : List Decimal → List Fraction → Type 0 whe
 abbrev Places : (dir : Direction) (k : ℕ) (vs : List Decimal) (qs : List Fraction) → Type 0
 Places dir k vs qs = (n : ℕ) (b : Bool) → ltb n k ≡ b → Fair dir (cond b workedRoundings 0) (cond b workedWidth inputWidth) (look vs n) (exactly qs n)
 
-shorter : (n k : ℕ) (b : Bool) → ltb (suc n) (suc k) ≡ b → ltb n k ≡ b
+pub shorter : (n k : ℕ) (b : Bool) → ltb (suc n) (suc k) ≡ b → ltb n k ≡ b
 shorter n k true e = lt-ltb n k (omega (arith, ltb-true (suc n) (suc k) e))
 shorter n k false e = le-ltb n k (omega (arith, ltb-false (suc n) (suc k) e))
 

@@ -1,6 +1,6 @@
 -- What the code's terms of a side stand for: the terms of the table's formulas over the decimals that its numbers stand for.
 use mathlib.Core.List.{List, _++_, map}
-use Prim.Native.Nat.{ℕ, _≤_, _<_, _-_}
+use Prim.Native.Nat.{ℕ, _+_, _≤_, _<_, _-_}
 use lib.ListN.{getD}
 use Rattle.rounding.specs.Sizes.{tenDigits, bias}
 use Rattle.rounding.specs.declared.Direction.{Direction}
@@ -12,8 +12,10 @@ use Rattle.factors.specs.declared.numbers.ContaminantNumbers.{ContaminantNumber
 use Rattle.factors.specs.declared.prepared.Prepared.{Prepared}
 use Rattle.terms.specs.declared.pathways.PathwayTerms.{PathwayTerms}
 use Rattle.terms.specs.declared.pathways.Terms.{Terms}
+use Rattle.formulas.specs.Side.{Risk, Hazard}
 use Rattle.formulas.specs.Formula.{Formula, B, none, pathwaysOf, derived}
 use Rattle.formulas.specs.Term.{look, constants, totalOf, termOf}
+use Rattle.inputs.specs.Limits.{formulaWidth}
 use Rattle.factors.specs.Stands.{Stands, factorNumbers, contaminantNumbers, ReadyNumbers}
 use Rattle.factors.specs.Prepared.{PreparedFor}
 
@@ -35,13 +37,13 @@ pub record Air (dir : Direction) (p : Prepared) (t : ContaminantNumbers) (b : Nu
   pub stands : Stands 58 b (look (numberValues dir (p .factors) t) B)
 
 pub record SideFor (dir : Direction) (f : Factors) (t : ContaminantNumbers) (fs : List Formula) (s : PathwayTerms) : Type 0 where
-  pub first : Stands 600 (s .first) (termOf (numberValues dir f t) dir (getD fs 0 none))
-  pub second : Stands 600 (s .second) (termOf (numberValues dir f t) dir (getD fs 1 none))
-  pub third : Stands 600 (s .third) (termOf (numberValues dir f t) dir (getD fs 2 none))
+  pub first : Stands formulaWidth (s .first) (termOf (numberValues dir f t) dir (getD fs 0 none))
+  pub second : Stands formulaWidth (s .second) (termOf (numberValues dir f t) dir (getD fs 1 none))
+  pub third : Stands formulaWidth (s .third) (termOf (numberValues dir f t) dir (getD fs 2 none))
 
 pub record TermsFor (dir : Direction) (f : Factors) (t : ContaminantNumbers) (medium class : ℕ) (r : Terms) : Type 0 where
-  pub risk : SideFor dir f t (pathwaysOf medium class 0) (r .risk)
-  pub hazard : SideFor dir f t (pathwaysOf medium class 1) (r .hazard)
+  pub risk : SideFor dir f t (pathwaysOf medium class Risk) (r .risk)
+  pub hazard : SideFor dir f t (pathwaysOf medium class Hazard) (r .hazard)
 
 abbrev pub noSide : PathwayTerms
 noSide = record { first = record { m = 0; x = (bias - 8) }; second = record { m = 0; x = (bias - 8) }; third = record { m = 0; x = (bias - 8) } }
@@ -50,8 +52,8 @@ noSide = record { first = record { m = 0; x = (bias - 8) }; second = record { m 
 -- a number whose exponent leaves room for sums and a division
 pub record Wide (r : Number) : Type 0 where
   pub most : r .m < tenDigits
-  pub low : 2392 ≤ r .x
-  pub high : r .x ≤ 3592
+  pub low : (bias - 8) ≤ r .x + formulaWidth
+  pub high : r .x ≤ (bias - 8) + formulaWidth
 
 pub record WideSide (s : PathwayTerms) : Type 0 where
   pub first : Wide (s .first)
@@ -61,5 +63,5 @@ pub record WideSide (s : PathwayTerms) : Type 0 where
 -- two exponents more at the most
 pub record TotalSize (r : Number) : Type 0 where
   pub most : r .m < tenDigits
-  pub low : 2392 ≤ r .x
-  pub high : r .x ≤ 3594
+  pub low : (bias - 8) ≤ r .x + formulaWidth
+  pub high : r .x ≤ (bias - 8) + (formulaWidth + 2)

@@ -15,6 +15,7 @@ use rounding::NINE_DIGITS;
 use rounding::Number;
 ghost use mathlib.Core.Path.{_≡_};
 ghost use Rattle.rounding.specs.Operations.{sumOf};
+ghost use Rattle.formulas.specs.Side.{Risk, Hazard};
 ghost use Rattle.formulas.specs.Formula.{pathwaysOf};
 ghost use Rattle.terms.specs.Side.{Ready, Air, noSide, SideFor, TermsFor, WideSide, TotalSize};
 ghost use Rattle.inputs.specs.Rules.{OneOrTwo};
@@ -54,7 +55,7 @@ fn air(p: Prepared, t: ContaminantNumbers, dir: Direction) -> Number
 // Soil, chemical, risk: ingestion and inhalation.
 fn soil_chemical_risk(p: Prepared, t: ContaminantNumbers, b: Number, dir: Direction) -> PathwayTerms
     requires { ⌜ Ready dir p t × Air dir p t b ⌝ }
-    ensures { λ s. ⌜ SideFor dir (p .factors) t (pathwaysOf 1 1 0) s ⌝ }
+    ensures { λ s. ⌜ SideFor dir (p .factors) t (pathwaysOf 1 1 Risk) s ⌝ }
 {
     let e = p.factors.exposure;
     let k = p.factors.contact;
@@ -76,7 +77,7 @@ fn soil_chemical_hazard(
     dir: Direction,
 ) -> PathwayTerms
     requires { ⌜ Ready dir p t × Air dir p t b ⌝ }
-    ensures { λ s. ⌜ SideFor dir (p .factors) t (pathwaysOf 1 1 1) s ⌝ }
+    ensures { λ s. ⌜ SideFor dir (p .factors) t (pathwaysOf 1 1 Hazard) s ⌝ }
 {
     let e = p.factors.exposure;
     let k = p.factors.contact;
@@ -94,7 +95,7 @@ fn soil_chemical_hazard(
 // Soil, radionuclide, risk: ingestion, inhalation and external radiation.
 fn soil_radionuclide_risk(p: Prepared, t: ContaminantNumbers, dir: Direction) -> PathwayTerms
     requires { ⌜ Ready dir p t ⌝ }
-    ensures { λ s. ⌜ SideFor dir (p .factors) t (pathwaysOf 1 2 0) s ⌝ }
+    ensures { λ s. ⌜ SideFor dir (p .factors) t (pathwaysOf 1 2 Risk) s ⌝ }
 {
     let e = p.factors.exposure;
     let k = p.factors.contact;
@@ -111,7 +112,7 @@ fn soil_radionuclide_risk(p: Prepared, t: ContaminantNumbers, dir: Direction) ->
 // Water, chemical, risk: ingestion, vapour and skin.
 fn water_chemical_risk(p: Prepared, t: ContaminantNumbers, dir: Direction) -> PathwayTerms
     requires { ⌜ Ready dir p t ⌝ }
-    ensures { λ s. ⌜ SideFor dir (p .factors) t (pathwaysOf 2 1 0) s ⌝ }
+    ensures { λ s. ⌜ SideFor dir (p .factors) t (pathwaysOf 2 1 Risk) s ⌝ }
 {
     let e = p.factors.exposure;
     let k = p.factors.contact;
@@ -131,7 +132,7 @@ fn water_chemical_risk(p: Prepared, t: ContaminantNumbers, dir: Direction) -> Pa
 // Water, chemical, hazard: ingestion, vapour and skin.
 fn water_chemical_hazard(p: Prepared, t: ContaminantNumbers, dir: Direction) -> PathwayTerms
     requires { ⌜ Ready dir p t ⌝ }
-    ensures { λ s. ⌜ SideFor dir (p .factors) t (pathwaysOf 2 1 1) s ⌝ }
+    ensures { λ s. ⌜ SideFor dir (p .factors) t (pathwaysOf 2 1 Hazard) s ⌝ }
 {
     let e = p.factors.exposure;
     let k = p.factors.contact;
@@ -151,7 +152,7 @@ fn water_chemical_hazard(p: Prepared, t: ContaminantNumbers, dir: Direction) -> 
 // Water, radionuclide, risk: ingestion.
 fn water_radionuclide_risk(p: Prepared, t: ContaminantNumbers, dir: Direction) -> PathwayTerms
     requires { ⌜ Ready dir p t ⌝ }
-    ensures { λ s. ⌜ SideFor dir (p .factors) t (pathwaysOf 2 2 0) s ⌝ }
+    ensures { λ s. ⌜ SideFor dir (p .factors) t (pathwaysOf 2 2 Risk) s ⌝ }
 {
     let e = p.factors.exposure;
     let k = p.factors.contact;

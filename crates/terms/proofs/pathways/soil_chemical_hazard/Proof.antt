@@ -3,6 +3,7 @@ use mathlib.Core.List.{List, [], _∷_}
 use Prim.Native.Nat.{ℕ}
 use lib.Dec.{lit≤}
 use Rattle.decimal.specs.declared.Decimal.{Decimal}
+use Rattle.formulas.specs.Side.{Hazard}
 use Rattle.formulas.specs.Formula.{B, Days, EF, BW, IRA, RfDo, RfDi, table, pathwaysOf, derived}
 use Rattle.factors.specs.Stands.{Stands}
 use Rattle.terms.specs.Side.{numberValues}
@@ -86,9 +87,9 @@ returns c =
     let s = start (at-back .before) in
     let ready = s .pre .0 in
     record {
-      first = side-term ready 1 1 1 0 (lit≤ tt) (stands-div (s .args .dir) (ready .prepared .soil-intake) (oral at-oral) (lit≤ tt) (at-first .div .ensures .0));
-      second = side-term ready 1 1 1 1 (lit≤ tt) (stands-div (s .args .dir) (intake at-intake) (inhaled at-inhaled) (lit≤ tt) (c .div2 .ensures .0));
-      third = side-term ready 1 1 1 2 (lit≤ tt) zero-stands;
+      first = side-term ready 1 1 Hazard 0 (lit≤ tt) (stands-div (s .args .dir) (ready .prepared .soil-intake) (oral at-oral) (lit≤ tt) (at-first .div .ensures .0));
+      second = side-term ready 1 1 Hazard 1 (lit≤ tt) (stands-div (s .args .dir) (intake at-intake) (inhaled at-inhaled) (lit≤ tt) (c .div2 .ensures .0));
+      third = side-term ready 1 1 Hazard 2 (lit≤ tt) zero-stands;
     }
 
 pub soil-chemical-hazard-spec : {M : Type 1} → statement M

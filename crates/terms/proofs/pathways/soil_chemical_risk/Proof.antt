@@ -3,6 +3,7 @@ use mathlib.Core.List.{List, [], _∷_}
 use Prim.Native.Nat.{ℕ}
 use lib.Dec.{lit≤}
 use Rattle.decimal.specs.declared.Decimal.{Decimal}
+use Rattle.formulas.specs.Side.{Risk}
 use Rattle.formulas.specs.Formula.{B, Millionth, EF, ED, IR, IRA, SFo, SFi, table, pathwaysOf, derived}
 use Rattle.factors.specs.Stands.{Stands}
 use Rattle.terms.specs.Side.{numberValues}
@@ -89,9 +90,9 @@ returns c =
     let s = start (at-oral3 .before) in
     let ready = s .pre .0 in
     record {
-      first = side-term ready 1 1 0 0 (lit≤ tt) (stands-div (s .args .dir) (oral at-oral) (ready .prepared .lifetime) (lit≤ tt) (at-first .div .ensures .0));
-      second = side-term ready 1 1 0 1 (lit≤ tt) (stands-div (s .args .dir) (inhaled at-inhaled) (ready .prepared .lifetime) (lit≤ tt) (c .div2 .ensures .0));
-      third = side-term ready 1 1 0 2 (lit≤ tt) zero-stands;
+      first = side-term ready 1 1 Risk 0 (lit≤ tt) (stands-div (s .args .dir) (oral at-oral) (ready .prepared .lifetime) (lit≤ tt) (at-first .div .ensures .0));
+      second = side-term ready 1 1 Risk 1 (lit≤ tt) (stands-div (s .args .dir) (inhaled at-inhaled) (ready .prepared .lifetime) (lit≤ tt) (c .div2 .ensures .0));
+      third = side-term ready 1 1 Risk 2 (lit≤ tt) zero-stands;
     }
 
 pub soil-chemical-risk-spec : {M : Type 1} → statement M

@@ -3,6 +3,7 @@ use mathlib.Core.List.{List, [], _∷_}
 use Prim.Native.Nat.{ℕ}
 use lib.Dec.{lit≤}
 use Rattle.decimal.specs.declared.Decimal.{Decimal}
+use Rattle.formulas.specs.Side.{Risk}
 use Rattle.formulas.specs.Formula.{Millionth, YearsPerHour, EF, ED, IR, IRA, PEF, ET, RF, SFo, SFi, SFx, table, pathwaysOf, derived}
 use Rattle.factors.specs.Stands.{Stands}
 use Rattle.terms.specs.Side.{numberValues}
@@ -128,9 +129,9 @@ returns c =
     let ready = s .pre in
     let r = input ready in
     record {
-      first = side-term ready 1 2 0 0 (lit≤ tt) (oral at-oral);
-      second = side-term ready 1 2 0 1 (lit≤ tt) (stands-div (s .args .dir) (inhaled at-inhaled) (r PEF) (lit≤ tt) (at-second .div .ensures .0));
-      third = side-term ready 1 2 0 2 (lit≤ tt) (outdoors c);
+      first = side-term ready 1 2 Risk 0 (lit≤ tt) (oral at-oral);
+      second = side-term ready 1 2 Risk 1 (lit≤ tt) (stands-div (s .args .dir) (inhaled at-inhaled) (r PEF) (lit≤ tt) (at-second .div .ensures .0));
+      third = side-term ready 1 2 Risk 2 (lit≤ tt) (outdoors c);
     }
 
 pub soil-radionuclide-risk-spec : {M : Type 1} → statement M

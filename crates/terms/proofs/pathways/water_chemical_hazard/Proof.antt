@@ -3,6 +3,7 @@ use mathlib.Core.List.{List, [], _∷_}
 use Prim.Native.Nat.{ℕ}
 use lib.Dec.{lit≤}
 use Rattle.decimal.specs.declared.Decimal.{Decimal}
+use Rattle.formulas.specs.Side.{Hazard}
 use Rattle.formulas.specs.Formula.{Thousandth, Days, EF, BW, ET, SA, RfDo, RfDi, PC, table, pathwaysOf, derived}
 use Rattle.factors.specs.Stands.{Stands}
 use Rattle.terms.specs.Side.{numberValues}
@@ -109,9 +110,9 @@ returns c =
     let s = start (at-back .before) in
     let ready = s .pre in
     record {
-      first = side-term ready 2 1 1 0 (lit≤ tt) (stands-div (s .args .dir) (ready .prepared .water-intake) (oral at-oral) (lit≤ tt) (at-first .div .ensures .0));
-      second = side-term ready 2 1 1 1 (lit≤ tt) (stands-div (s .args .dir) (ready .prepared .vapour-intake) (inhaled at-inhaled) (lit≤ tt) (at-second .div2 .ensures .0));
-      third = side-term ready 2 1 1 2 (lit≤ tt) (stands-div (s .args .dir) (skin at-skin) (oral at-oral) (lit≤ tt) (c .div3 .ensures .0));
+      first = side-term ready 2 1 Hazard 0 (lit≤ tt) (stands-div (s .args .dir) (ready .prepared .water-intake) (oral at-oral) (lit≤ tt) (at-first .div .ensures .0));
+      second = side-term ready 2 1 Hazard 1 (lit≤ tt) (stands-div (s .args .dir) (ready .prepared .vapour-intake) (inhaled at-inhaled) (lit≤ tt) (at-second .div2 .ensures .0));
+      third = side-term ready 2 1 Hazard 2 (lit≤ tt) (stands-div (s .args .dir) (skin at-skin) (oral at-oral) (lit≤ tt) (c .div3 .ensures .0));
     }
 
 pub water-chemical-hazard-spec : {M : Type 1} → statement M

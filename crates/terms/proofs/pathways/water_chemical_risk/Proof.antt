@@ -3,6 +3,7 @@ use mathlib.Core.List.{List, [], _∷_}
 use Prim.Native.Nat.{ℕ}
 use lib.Dec.{lit≤}
 use Rattle.decimal.specs.declared.Decimal.{Decimal}
+use Rattle.formulas.specs.Side.{Risk}
 use Rattle.formulas.specs.Formula.{Thousandth, Half, EF, ED, IR, IRA, ET, SA, SFo, SFi, PC, table, pathwaysOf, derived}
 use Rattle.factors.specs.Stands.{Stands}
 use Rattle.terms.specs.Side.{numberValues}
@@ -138,9 +139,9 @@ returns c =
     let s = start (at-oral2 .before) in
     let ready = s .pre in
     record {
-      first = side-term ready 2 1 0 0 (lit≤ tt) (stands-div (s .args .dir) (oral at-oral) (ready .prepared .lifetime) (lit≤ tt) (at-first .div .ensures .0));
-      second = side-term ready 2 1 0 1 (lit≤ tt) (stands-div (s .args .dir) (inhaled at-inhaled) (ready .prepared .lifetime) (lit≤ tt) (at-second .div2 .ensures .0));
-      third = side-term ready 2 1 0 2 (lit≤ tt) (stands-div (s .args .dir) (skin at-skin) (ready .prepared .lifetime) (lit≤ tt) (c .div3 .ensures .0));
+      first = side-term ready 2 1 Risk 0 (lit≤ tt) (stands-div (s .args .dir) (oral at-oral) (ready .prepared .lifetime) (lit≤ tt) (at-first .div .ensures .0));
+      second = side-term ready 2 1 Risk 1 (lit≤ tt) (stands-div (s .args .dir) (inhaled at-inhaled) (ready .prepared .lifetime) (lit≤ tt) (at-second .div2 .ensures .0));
+      third = side-term ready 2 1 Risk 2 (lit≤ tt) (stands-div (s .args .dir) (skin at-skin) (ready .prepared .lifetime) (lit≤ tt) (c .div3 .ensures .0));
     }
 
 pub water-chemical-risk-spec : {M : Type 1} → statement M

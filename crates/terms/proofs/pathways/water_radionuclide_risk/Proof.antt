@@ -3,6 +3,7 @@ use mathlib.Core.List.{List, [], _∷_}
 use Prim.Native.Nat.{ℕ}
 use lib.Dec.{lit≤}
 use Rattle.decimal.specs.declared.Decimal.{Decimal}
+use Rattle.formulas.specs.Side.{Risk}
 use Rattle.formulas.specs.Formula.{EF, ED, IR, SFo, table, pathwaysOf, derived}
 use Rattle.factors.specs.Stands.{Stands}
 use Rattle.terms.specs.Side.{numberValues}
@@ -51,9 +52,9 @@ returns c =
     let s = start (at-oral2 .before) in
     let ready = s .pre in
     record {
-      first = side-term ready 2 2 0 0 (lit≤ tt) (oral c);
-      second = side-term ready 2 2 0 1 (lit≤ tt) zero-stands;
-      third = side-term ready 2 2 0 2 (lit≤ tt) zero-stands;
+      first = side-term ready 2 2 Risk 0 (lit≤ tt) (oral c);
+      second = side-term ready 2 2 Risk 1 (lit≤ tt) zero-stands;
+      third = side-term ready 2 2 Risk 2 (lit≤ tt) zero-stands;
     }
 
 pub water-radionuclide-risk-spec : {M : Type 1} → statement M
