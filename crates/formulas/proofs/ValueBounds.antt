@@ -76,8 +76,12 @@ total-front dir vs qs r (fs ∷ fss) (one-table s short e) =
     let n = length-map fs (termOf vs dir) in
     next (fair-most dir (omega (arith, short, n)) (omega (arith, short, n)) (total-fair dir vs qs r {K = partRoundings} {W = partWidth} (lit≤ tt) fs s (omega (arith, short, n)))) (total-front dir vs qs r fss e)
 
+-- the inputs, with nothing worked out yet
+pub plain-stand : (dir : Direction) (l : List Decimal) → allValid l ≡ true → Represents dir (plainValues l) (exactPlain l)
+plain-stand dir l v = fronted dir l v (length-map derived _ ∙ derived-places) (zero-front dir derived)
+
 pub values-stand : (dir : Direction) (l : List Decimal) → allValid l ≡ true → Represents dir (valuesOf dir l) (exactValues l)
 unfolding valuesOf exactValues
 values-stand dir l v =
     fronted dir l v (length-map derived _ ∙ derived-places)
-    (total-front dir (plainValues l) (exactPlain l) (fronted dir l v (length-map derived _ ∙ derived-places) (zero-front dir derived)) derived derived-every)
+    (total-front dir (plainValues l) (exactPlain l) (plain-stand dir l v) derived derived-every)

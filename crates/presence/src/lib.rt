@@ -2,10 +2,11 @@
 use inputs::Contaminant;
 use inputs::Scenario;
 use inputs::both;
+use outcome::Refusal;
 ghost use mathlib.Core.Path.{_≡_};
 ghost use mathlib.Core.Bool.{_&&_, _||_};
-ghost use Rattle.sum_rules.specs.Share.{hasPathway};
-ghost use Rattle.presence.specs.Presence.{knownValues, eitherSide, chemicalOf};
+ghost use Rattle.guideline_rules.specs.Pathway.{eitherSide, recordRefusal};
+ghost use Rattle.presence.specs.Presence.{knownValues, eitherKnown, chemicalOf, Needed};
 ghost use Rattle.inputs.specs.Rules.{Checked};
 
 // One test or the other.
@@ -36,7 +37,8 @@ fn chemical(r: Contaminant, swallowed: bool, breathed: bool) -> bool
 
 // A chemical in soil: ingestion, and inhalation where VF or PEF is known.
 fn soil_chemical(s: Scenario, r: Contaminant) -> bool
-    ensures { λ b. ⌜ b ≡ eitherSide (knownValues s r) 1 1 ⌝ }
+    requires { ⌜ Needed s ⌝ }
+    ensures { λ b. ⌜ b ≡ eitherKnown (knownValues s r) 1 1 ⌝ }
 {
     let air = either(r.transfer.vf.m != 0, s.contact.pef.m != 0);
     chemical(r, s.contact.ir.m != 0, both(s.contact.ira.m != 0, air))
@@ -44,7 +46,8 @@ fn soil_chemical(s: Scenario, r: Contaminant) -> bool
 
 // A radionuclide in soil: ingestion, inhalation and external radiation.
 fn soil_radionuclide(s: Scenario, r: Contaminant) -> bool
-    ensures { λ b. ⌜ b ≡ eitherSide (knownValues s r) 1 2 ⌝ }
+    requires { ⌜ Needed s ⌝ }
+    ensures { λ b. ⌜ b ≡ eitherKnown (knownValues s r) 1 2 ⌝ }
 {
     let swallowed = both(r.toxicity.sfo.m != 0, s.contact.ir.m != 0);
     let breathed = all_three(
@@ -62,7 +65,8 @@ fn soil_radionuclide(s: Scenario, r: Contaminant) -> bool
 
 // A chemical in water: ingestion and skin, and vapour.
 fn water_chemical(s: Scenario, r: Contaminant) -> bool
-    ensures { λ b. ⌜ b ≡ eitherSide (knownValues s r) 2 1 ⌝ }
+    requires { ⌜ Needed s ⌝ }
+    ensures { λ b. ⌜ b ≡ eitherKnown (knownValues s r) 2 1 ⌝ }
 {
     let skin = all_three(
         s.contact.sa.m != 0,
@@ -74,15 +78,16 @@ fn water_chemical(s: Scenario, r: Contaminant) -> bool
 
 // A radionuclide in water: ingestion.
 fn water_radionuclide(s: Scenario, r: Contaminant) -> bool
-    ensures { λ b. ⌜ b ≡ eitherSide (knownValues s r) 2 2 ⌝ }
+    requires { ⌜ Needed s ⌝ }
+    ensures { λ b. ⌜ b ≡ eitherKnown (knownValues s r) 2 2 ⌝ }
 {
     both(r.toxicity.sfo.m != 0, s.contact.ir.m != 0)
 }
 
-// Whether a contaminant has a pathway on either side in a medium (1 soil, 2 water): refusal 8.
-pub fn has_pathway(s: Scenario, medium: u32, r: Contaminant) -> bool
+// Whether a contaminant has a pathway on either side in a medium (1 soil, 2 water).
+fn has_pathway(s: Scenario, medium: u32, r: Contaminant) -> bool
     requires { ⌜ Checked s medium r ⌝ }
-    ensures { λ b. ⌜ b ≡ hasPathway s medium r 0 || hasPathway s medium r 1 ⌝ }
+    ensures { λ b. ⌜ b ≡ eitherSide s medium r ⌝ }
 {
     if r.class == 2 {
         if medium == 1 {
@@ -94,4 +99,15 @@ pub fn has_pathway(s: Scenario, medium: u32, r: Contaminant) -> bool
         return soil_chemical(s, r);
     }
     water_chemical(s, r)
+}
+
+// What is sent back of a record that keeps its rules and its order: 8.
+pub fn record_refusal(s: Scenario, medium: u32, r: Contaminant) -> Refusal
+    requires { ⌜ Checked s medium r ⌝ }
+    ensures { λ n. ⌜ n ≡ recordRefusal s medium r ⌝ }
+{
+    if has_pathway(s, medium, r) {
+        return Refusal::Accepted;
+    }
+    Refusal::Pathway
 }

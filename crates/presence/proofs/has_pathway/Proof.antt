@@ -1,12 +1,11 @@
 -- `presence::has_pathway` meets its contract. Assumes nothing.
 use Rattle.inputs.proofs.Tests.{other-one, other-two}
-use Rattle.presence.proofs.KnownValues.{checked-inputs, pathway-is}
-use borrow.Author.Needs.{needs}
+use Rattle.presence.proofs.KnownValues.{needed, checked-inputs, pathway-is}
 use Rattle.presence.proofs.has_pathway.Statement.{statement}
 use Rattle.presence.proofs.has_pathway.Tie as tie
 
 soil-radionuclide-requires : tie.Need-soil-radionuclide-requires
-soil-radionuclide-requires c κs = search needs
+soil-radionuclide-requires c κs = needed _ (c .before .before .before .pre .factors)
 
 returns : tie.Need-returns
 returns c =
@@ -14,7 +13,7 @@ returns c =
     pathway-is p (c .before .if2 .taken) (c .before .before .if1 .taken) (c .soil-radionuclide .ensures)
 
 water-radionuclide-requires : tie.Need-water-radionuclide-requires
-water-radionuclide-requires c κs = search needs
+water-radionuclide-requires c κs = needed _ (c .before .before .before .pre .factors)
 
 returns-2 : tie.Need-returns-2
 returns-2 c =
@@ -22,7 +21,7 @@ returns-2 c =
     pathway-is p (other-one (checked-inputs p .media) (c .before .if2 .left)) (c .before .before .if1 .taken) (c .water-radionuclide .ensures)
 
 soil-chemical-requires : tie.Need-soil-chemical-requires
-soil-chemical-requires c κs = search needs
+soil-chemical-requires c κs = needed _ (c .before .before .before .pre .factors)
 
 returns-3 : tie.Need-returns-3
 returns-3 c =
@@ -30,7 +29,7 @@ returns-3 c =
     pathway-is p (c .before .if3 .taken) (other-two (checked-inputs p .class) (c .before .before .if1 .left)) (c .soil-chemical .ensures)
 
 water-chemical-requires : tie.Need-water-chemical-requires
-water-chemical-requires c κs = search needs
+water-chemical-requires c κs = needed _ (c .before .before .before .pre .factors)
 
 returns-4 : tie.Need-returns-4
 returns-4 c =

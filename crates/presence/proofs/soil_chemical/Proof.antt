@@ -14,7 +14,11 @@ chemical-requires : tie.Need-chemical-requires
 chemical-requires c κs = search needs
 
 returns : tie.Need-returns
-returns c = rw (c .chemical .ensures, c .before .both .ensures, c .before .before .before .before .either .ensures) (soil-chemical (c .before .before .before .before .before .before .before .args .s) (c .before .before .before .before .before .before .before .args .r))
+returns c =
+    let at-both = c .before in
+    let at-either = at-both .before .before .before in
+    let start = at-either .before .before .before in
+    rw (c .chemical .ensures, at-both .both .ensures, at-either .either .ensures) (soil-chemical (start .args .s) (start .args .r) (start .pre))
 
 pub soil-chemical-spec : {M : Type 1} → statement M
 soil-chemical-spec = tie.close (tie.spec either-requires both-requires chemical-requires returns)

@@ -20,7 +20,13 @@ either-requires-2 : tie.Need-either-requires-2
 either-requires-2 c κs = search needs
 
 returns : tie.Need-returns
-returns c = rw (c .either2 .ensures, c .before .either .ensures, c .before .before .all-three2 .ensures, c .before .before .before .before .before .before .all-three .ensures, c .before .before .before .before .before .before .before .before .before .before .both .ensures) (soil-radionuclide (c .before .before .before .before .before .before .before .before .before .before .before .before .before .args .s) (c .before .before .before .before .before .before .before .before .before .before .before .before .before .args .r))
+returns c =
+    let at-either = c .before in
+    let at-all-three2 = at-either .before in
+    let at-all-three = at-all-three2 .before .before .before .before in
+    let at-both = at-all-three .before .before .before .before in
+    let start = at-both .before .before .before in
+    rw (c .either2 .ensures, at-either .either .ensures, at-all-three2 .all-three2 .ensures, at-all-three .all-three .ensures, at-both .both .ensures) (soil-radionuclide (start .args .s) (start .args .r) (start .pre))
 
 pub soil-radionuclide-spec : {M : Type 1} → statement M
 soil-radionuclide-spec =

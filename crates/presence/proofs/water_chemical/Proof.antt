@@ -14,7 +14,11 @@ chemical-requires : tie.Need-chemical-requires
 chemical-requires c κs = search needs
 
 returns : tie.Need-returns
-returns c = rw (c .chemical .ensures, c .before .before .either .ensures, c .before .before .before .before .all-three .ensures) (water-chemical (c .before .before .before .before .before .before .before .before .args .s) (c .before .before .before .before .before .before .before .before .args .r))
+returns c =
+    let at-either = c .before .before in
+    let at-all-three = at-either .before .before in
+    let start = at-all-three .before .before .before .before in
+    rw (c .chemical .ensures, at-either .either .ensures, at-all-three .all-three .ensures) (water-chemical (start .args .s) (start .args .r) (start .pre))
 
 pub water-chemical-spec : {M : Type 1} → statement M
 water-chemical-spec =

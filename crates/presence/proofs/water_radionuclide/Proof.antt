@@ -8,7 +8,9 @@ both-requires : tie.Need-both-requires
 both-requires c κs = search needs
 
 returns : tie.Need-returns
-returns c = rw (c .both .ensures) (water-radionuclide (c .before .before .before .args .s) (c .before .before .before .args .r))
+returns c =
+    let start = c .before .before .before in
+    rw (c .both .ensures) (water-radionuclide (start .args .s) (start .args .r) (start .pre))
 
 pub water-radionuclide-spec : {M : Type 1} → statement M
 water-radionuclide-spec = tie.close (tie.spec both-requires returns)
