@@ -22,9 +22,11 @@ use Rattle.decimal.proofs.OperandFacts.{Operand}
 use Rattle.decimal.proofs.Laws.{decimal-zero, working-is, nine-working}
 use Rattle.decimal.proofs.CoreOperations.{mul-core, div-core, add-core}
 use Rattle.decimal.proofs.Approximation.{Sized, sized-of}
+use Rattle.inputs.specs.declared.Scenario.{Scenario}
 use Rattle.inputs.specs.Valid.{validOf}
 use Rattle.inputs.proofs.Tests.{valid-small}
-use Rattle.factors.specs.Stands.{Stands, StandAll, Inputs}
+use Rattle.factors.specs.declared.numbers.Factors.{Factors}
+use Rattle.factors.specs.Stands.{Stands, StandAll, FactorsFor, Inputs}
 use Rattle.factors.specs.Stands.StandAll.{end, next}
 use Rattle.factors.specs.Prepared.{Middle}
 use Rattle.decimal.proofs.Value.{Value, absent, known}
@@ -147,3 +149,11 @@ all-own (next s ss) = next (stands-own s) (all-own ss)
 pub all-same : {ns : List Number} {ds : List Decimal} → StandAll ns ds → map decimalOf ns ≡ ds
 all-same end = refl
 all-same (next s ss) = ap₂ _∷_ (s .is) (all-same ss)
+
+-- ---- the targets of a scenario
+module _ (s : Scenario) (f : Factors) (h : FactorsFor s f) where
+  pub risk-target : Stands 28 (f .targets .tr) (workingOf (s .targets .tr))
+  risk-target = stands-at h 10
+
+  pub hazard-target : Stands 28 (f .targets .thi) (workingOf (s .targets .thi))
+  hazard-target = stands-at h 11

@@ -17,7 +17,7 @@ use Rattle.decimal.specs.declared.Decimal.{Decimal}
 use Rattle.decimal.specs.Decimal.{zeroOf, addOf, divOf, Printable}
 use Rattle.decimal.specs.Lists.{summed}
 use Rattle.decimal.proofs.Laws.{decimal-zero, decimal-nine}
-use Rattle.terms.specs.declared.pathways.Side.{Side}
+use Rattle.terms.specs.declared.pathways.PathwayTerms.{PathwayTerms}
 use Rattle.formulas.specs.Formula.{Formula, none}
 use Rattle.formulas.specs.Term.{termOf, totalOf}
 use Rattle.factors.specs.Stands.{Stands}
@@ -56,16 +56,16 @@ stands-zero {w} {r} {d} s = cases (s .working)
     cases (inr n) = ap (λ (d : Decimal). eqb (d .m) 0) (sym (decimal-nine r n) ∙ s .is)
 
 -- ---- the terms of a side over any values, in a direction
-pub record SideStands (dir : Direction) (vs : List Decimal) (fs : List Formula) (t : Side) : Type 0 where
+pub record SideStands (dir : Direction) (vs : List Decimal) (fs : List Formula) (t : PathwayTerms) : Type 0 where
   pub first : Stands 600 (t .first) (termOf vs dir (getD fs 0 none))
   pub second : Stands 600 (t .second) (termOf vs dir (getD fs 1 none))
   pub third : Stands 600 (t .third) (termOf vs dir (getD fs 2 none))
 
-pub side-wide : {dir : Direction} {vs : List Decimal} {fs : List Formula} {t : Side} → SideStands dir vs fs t → WideSide t
+pub side-wide : {dir : Direction} {vs : List Decimal} {fs : List Formula} {t : PathwayTerms} → SideStands dir vs fs t → WideSide t
 side-wide s = record { first = stands-wide (lit≤ tt) (s .first); second = stands-wide (lit≤ tt) (s .second); third = stands-wide (lit≤ tt) (s .third) }
 
 -- the sum of the terms
-module _ (dir : Direction) (vs : List Decimal) (fs : List Formula) (t : Side) (h : length fs ≡ 3) (s : SideStands dir vs fs t) where
+module _ (dir : Direction) (vs : List Decimal) (fs : List Formula) (t : PathwayTerms) (h : length fs ≡ 3) (s : SideStands dir vs fs t) where
   a : Decimal
   a = termOf vs dir (getD fs 0 none)
 
@@ -100,7 +100,8 @@ pub record ColumnStands (vs : List Decimal) (target : Decimal) (fs : List Formul
   pub third : Stands 629 (c .third) (divOf target (termOf vs Up (getD fs 2 none)) Down)
   pub total : Stands 631 (c .total) (divOf target (totalOf vs Up fs) Down)
 
-pub column-stands : (vs : List Decimal) (fs : List Formula) (t : Side) → length fs ≡ 3 → SideStands Up vs fs t → (n : Number) (target : Decimal) (k : Column) → Stands 28 n target → ColumnFor n t k → ColumnStands vs target fs k
+pub column-stands : (vs : List Decimal) (fs : List Formula) (t : PathwayTerms) → length fs ≡ 3 → SideStands Up vs fs t →
+    (n : Number) (target : Decimal) (k : Column) → Stands 28 n target → ColumnFor n t k → ColumnStands vs target fs k
 column-stands vs fs t h s n target k g e =
     let u = subst (λ (r : Number). Stands 602 r (totalOf vs Up fs)) (sym (e .sum)) (sum-stands Up vs fs t h s) in
     record {
@@ -112,7 +113,7 @@ column-stands vs fs t h s n target k g e =
     }
 
 -- ---- what follows from it
-module _ {vs : List Decimal} {target : Decimal} {fs : List Formula} {t : Side} {k : Column} (s : SideStands Up vs fs t) (h : ColumnStands vs target fs k) where
+module _ {vs : List Decimal} {target : Decimal} {fs : List Formula} {t : PathwayTerms} {k : Column} (s : SideStands Up vs fs t) (h : ColumnStands vs target fs k) where
   pub column-ranged : columnRanged t k ≡ true
   column-ranged =
       rw (
@@ -142,7 +143,13 @@ module _ {vs : List Decimal} {target : Decimal} {fs : List Formula} {t : Side} {
       )
 
 pub column-printable : {vs : List Decimal} {target : Decimal} {fs : List Formula} {k : Column} → ColumnStands vs target fs k → PrintableColumn k
-column-printable h = record { first = stands-printable (lit≤ tt) (h .first); second = stands-printable (lit≤ tt) (h .second); third = stands-printable (lit≤ tt) (h .third); total = stands-printable (lit≤ tt) (h .total) }
+column-printable h =
+    record {
+      first = stands-printable (lit≤ tt) (h .first);
+      second = stands-printable (lit≤ tt) (h .second);
+      third = stands-printable (lit≤ tt) (h .third);
+      total = stands-printable (lit≤ tt) (h .total);
+    }
 
 pub column-is : {vs : List Decimal} {target : Decimal} {fs : List Formula} {k : Column} → ColumnStands vs target fs k → columnDecimals k ≡ sideOf vs target fs
 unfolding sideOf

@@ -10,10 +10,10 @@ use Rattle.guideline_rules.specs.declared.SideGuidelines.{SideGuidelines}
 use Rattle.rounding.specs.declared.Direction.the-variants.{Down, Up}
 use Rattle.rounding.specs.declared.Number.{Number}
 use Rattle.rounding.specs.Operations.{quotientOf, sumOf}
-use Rattle.terms.specs.declared.pathways.Side.{Side}
+use Rattle.terms.specs.declared.pathways.PathwayTerms.{PathwayTerms}
 use Rattle.guideline.specs.declared.Column.{Column}
 
-pub record ColumnFor (target : Number) (t : Side) (c : Column) : Type 0 where
+pub record ColumnFor (target : Number) (t : PathwayTerms) (c : Column) : Type 0 where
   pub sum : c .sum ≡ sumOf Up (sumOf Up (t .first) (t .second)) (t .third)
   pub size : TotalSize (c .sum)
   pub first : c .first ≡ quotientOf Down target (t .first)
@@ -25,7 +25,7 @@ pub record ColumnFor (target : Number) (t : Side) (c : Column) : Type 0 where
 abbrev pub rangedOf : Number → Bool
 rangedOf r = ltb (bias - 1000) (r .x) && ltb (r .x) (bias + 1000)
 
-abbrev pub columnRanged : Side → Column → Bool
+abbrev pub columnRanged : PathwayTerms → Column → Bool
 columnRanged t c =
     (rangedOf (t .first) && (rangedOf (t .second) && rangedOf (t .third))) &&
     ((rangedOf (c .first) && (rangedOf (c .second) && rangedOf (c .third))) && (rangedOf (c .total) && rangedOf (c .sum)))

@@ -12,7 +12,7 @@ use outcome::Refusal;
 use rounding::BIAS;
 use rounding::Direction;
 use rounding::Number;
-use terms::pathways::Side;
+use terms::pathways::PathwayTerms;
 use terms::pathways::Terms;
 ghost use mathlib.Core.Path.{_≡_};
 ghost use Rattle.rounding.specs.declared.Direction.the-variants.{Down, Up};
@@ -89,7 +89,7 @@ fn ranged(r: Number) -> bool
 }
 
 // Whether the terms of a side, their sum and its guidelines are in range.
-fn column_ranged(t: Side, c: Column) -> bool
+fn column_ranged(t: PathwayTerms, c: Column) -> bool
     ensures { λ b. ⌜ b ≡ columnRanged t c ⌝ }
 {
     let terms = both(ranged(t.first), both(ranged(t.second), ranged(t.third)));
@@ -144,7 +144,7 @@ fn worked_out(s: Scenario, medium: u32, r: Contaminant) -> GuidelineAnswer
     let p = factors::prepared::prepare(f, Direction::Up);
     let t = factors::numbers::contaminant_numbers(r);
     let side = terms::pathways::terms_of(p, t, medium, r.class, Direction::Up);
-    let columns = columns_of(f.tr, f.thi, side);
+    let columns = columns_of(f.targets.tr, f.targets.thi, side);
     let risk = columns.risk;
     let hazard = columns.hazard;
     if both(risk.sum.m == 0, hazard.sum.m == 0) {

@@ -13,7 +13,8 @@ use Rattle.decimal.specs.Exponent.{raised}
 use Rattle.decimal.specs.Decimal.{zeroOf}
 use Rattle.inputs.specs.declared.Scenario.{Scenario}
 use Rattle.inputs.specs.declared.Contaminant.{Contaminant}
-use Rattle.inputs.specs.Inputs.{exposureOf, contactOf, targetsOf, toxicityOf, transferOf, scenarioDecimals, contaminantDecimals, scenarioPlaces, contaminantPlaces, scenarioOf, contaminantOf}
+use Rattle.inputs.specs.Inputs.{scenarioDecimals, formulaDecimals, contaminantDecimals, scenarioPlaces, contaminantPlaces}
+use Rattle.inputs.specs.Inputs.{exposureOf, contactOf, targetsOf, toxicityOf, transferOf, scenarioOf, contaminantOf}
 use Rattle.inputs.specs.Valid.{validOf, allValid}
 use Rattle.inputs.specs.Rules.{oneOrTwo, OneOrTwo}
 
@@ -52,6 +53,10 @@ valid-join3 x y z = valid-join x (y ++ z) ∙ ap (λ (b : Bool). allValid x && b
 -- valid decimals of two groups are valid in each
 pub valid-parts : (x y : List Decimal) → allValid (x ++ y) ≡ true → (allValid x ≡ true) × (allValid y ≡ true)
 valid-parts x y h = and-split (allValid x) (allValid y) (sym (valid-join x y) ∙ h)
+
+-- what the formulas name of a contaminant, and C
+pub contaminant-parts : (r : Contaminant) → allValid (contaminantDecimals r) ≡ true → (allValid (formulaDecimals r) ≡ true) × (validOf (r .c) ≡ true)
+contaminant-parts r h = let p = valid-parts (formulaDecimals r) (r .c ∷ []) h in (p .0, and-split (validOf (r .c)) true (p .1) .0)
 
 pub valid-append : (x y : List Decimal) → allValid x ≡ true → allValid y ≡ true → allValid (x ++ y) ≡ true
 valid-append [] y h k = k

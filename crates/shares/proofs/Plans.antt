@@ -5,7 +5,7 @@ use Prim.Native.Nat.{ℕ}
 use Rattle.inputs.specs.declared.Scenario.{Scenario}
 use Rattle.inputs.specs.declared.Contaminant.{Contaminant}
 use Rattle.inputs.specs.BuiltIn.{blank}
-use Rattle.inputs.specs.Inputs.{scenarioDecimals}
+use Rattle.inputs.specs.Inputs.{scenarioDecimals, scenarioOf, exposureOf, contactOf, targetsOf}
 use Rattle.inputs.specs.Valid.{validOf, allValid}
 use Rattle.inputs.specs.Rules.{oneOrTwo, scenarioFits, OneOrTwo}
 use Rattle.inputs.proofs.Tests.{and-split, one-or-two}
@@ -15,7 +15,7 @@ use Rattle.shares.specs.Plan.{Workable}
 
 -- ---- zero decimals keep their rule
 pub blank-valid : allValid (scenarioDecimals blank) ≡ true
-unfolding validOf
+unfolding validOf scenarioOf exposureOf contactOf targetsOf
 blank-valid = refl
 
 -- ---- the scenario and the medium that passed

@@ -7,7 +7,7 @@ use Rattle.rounding.specs.Sizes.{tenDigits, bias}
 use Rattle.rounding.specs.declared.Direction.the-variants.{Down, Up}
 use Rattle.rounding.specs.declared.Number.{Number}
 use Rattle.rounding.specs.Operations.{productOf, sumOf}
-use Rattle.decimal.specs.Decimal.{decimalOf}
+use Rattle.decimal.specs.Decimal.{decimalOf, workingOf}
 use Rattle.outcome.specs.declared.Refusal.{Refusal}
 use Rattle.outcome.specs.Outcome.{numberOf}
 use Rattle.inputs.specs.declared.Scenario.{Scenario}
@@ -15,10 +15,10 @@ use Rattle.inputs.specs.declared.Contaminant.{Contaminant}
 use Rattle.inputs.specs.Inputs.{scenarioDecimals}
 use Rattle.inputs.specs.Valid.{allValid}
 use Rattle.inputs.specs.Rules.{scenarioFits, lacksFactor, contaminantFits, OneOrTwo}
-use Rattle.factors.specs.declared.numbers.Toxicity.{Toxicity}
-use Rattle.terms.specs.declared.pathways.Side.{Side}
+use Rattle.factors.specs.declared.numbers.ContaminantNumbers.{ContaminantNumbers}
+use Rattle.terms.specs.declared.pathways.PathwayTerms.{PathwayTerms}
 use Rattle.terms.specs.declared.pathways.Terms.{Terms}
-use Rattle.factors.specs.Stands.{FactorsFor, ToxicityFor, Input}
+use Rattle.factors.specs.Stands.{Stands, FactorsFor, NumbersFor, Input}
 use Rattle.factors.specs.Prepared.{PreparedFor}
 use Rattle.terms.specs.Side.{TermsFor, TotalSize}
 use Rattle.shares.specs.declared.Plan.{Plan}
@@ -60,12 +60,12 @@ pub record Workable (p : Plan) (r : Contaminant) : Type 0 where
   pub passed : PlanFits p
   pub contaminant : contaminantFits r ≡ true
 
-abbrev pub totalFrom : Side → Number
+abbrev pub totalFrom : PathwayTerms → Number
 totalFrom s = sumOf Down (sumOf Down (s .first) (s .second)) (s .third)
 
 pub record WorkedFor (p : Plan) (r : Contaminant) (w : Worked) : Type 0 where
-  pub numbers : Toxicity
-  pub toxicity : ToxicityFor r numbers
+  pub numbers : ContaminantNumbers
+  pub stands : NumbersFor r numbers
   pub below : Terms
   pub upper-terms : TermsFor Up (p .up .factors) numbers (p .medium) (r .class) (w .above)
   pub lower-terms : TermsFor Down (p .down .factors) numbers (p .medium) (r .class) below
@@ -73,7 +73,7 @@ pub record WorkedFor (p : Plan) (r : Contaminant) (w : Worked) : Type 0 where
   pub hazard : w .hazard ≡ totalFrom (below .hazard)
   pub risk-size : TotalSize (w .risk)
   pub hazard-size : TotalSize (w .hazard)
-  pub c : w .c ≡ numbers .c
+  pub c : Stands 28 (w .c) (workingOf (r .c))
 
 -- ---- the running sums, as numbers
 abbrev pub noRuns : Runs

@@ -108,7 +108,7 @@ pub fn work(p: Plan, r: Contaminant) -> Worked
     let x = factors::numbers::contaminant_numbers(r);
     let above = terms::pathways::terms_of(p.up, x, p.medium, r.class, Direction::Up);
     let below = terms::pathways::terms_of(p.down, x, p.medium, r.class, Direction::Down);
-    let c = x.c;
+    let c = factors::numbers::number_of(r.c);
     Worked {
         above,
         risk: total(below.risk, Direction::Down),

@@ -1,29 +1,73 @@
 -- `guideline::worked_out` meets its contract. Assumes nothing.
-use mathlib.Core.Path.{_≡_, sym, ap, _∙_}
+use mathlib.Core.Path.{sym, _∙_}
 use mathlib.Core.Bool.{false≢true}
-use Rattle.terms.proofs.SameValues.{factors-ready, ready}
+use Rattle.inputs.proofs.Tests.{contaminant-parts}
+use Rattle.factors.proofs.StandsLaws.{all-own}
+use Rattle.terms.proofs.SameValues.{ready}
 use Rattle.guideline.proofs.ColumnBounds.{column-printable}
 use Rattle.guideline.proofs.Steps.{Terms-of, Columns-of, wide, risk-column, hazard-column, none-out, in-range, accepted-out}
 use borrow.Author.Needs.{needs}
 use Rattle.guideline.proofs.worked_out.Statement.{statement}
 use Rattle.guideline.proofs.worked_out.Tie as tie
 
+-- ---- what the code has worked out: the terms, then the columns
+abbrev Worked : tie.After-terms-of → Type 0
+Worked c =
+    let contaminant = c .before in
+    let prepared = contaminant .before in
+    let scenario = prepared .before in
+    let a = scenario .before .args in
+    Terms-of (a .s) (a .medium) (a .r) (scenario .scenario-numbers .result) (prepared .prepare .result) (contaminant .contaminant-numbers .result) (c .terms-of .result)
+
+terms : (c : tie.After-terms-of) → Worked c
+terms c =
+    let contaminant = c .before in
+    let prepared = contaminant .before in
+    let scenario = prepared .before in
+    record {
+      inputs = scenario .before .pre;
+      factors = scenario .scenario-numbers .ensures;
+      prepared = prepared .prepare .ensures;
+      numbers = contaminant .contaminant-numbers .ensures;
+      terms = c .terms-of .ensures;
+    }
+
+abbrev Filled : tie.After-columns-of → Type 0
+Filled c =
+    let worked = c .before in
+    let contaminant = worked .before in
+    let prepared = contaminant .before in
+    let scenario = prepared .before in
+    let a = scenario .before .args in
+    let g = c .columns-of .result in
+    Columns-of (a .s) (a .medium) (a .r) (scenario .scenario-numbers .result) (prepared .prepare .result) (contaminant .contaminant-numbers .result)
+    (worked .terms-of .result) (g .risk) (g .hazard)
+
+columns : (c : tie.After-columns-of) → Filled c
+columns c = let e = c .columns-of .ensures in record { terms = terms (c .before); risk = e .0; hazard = e .1 }
+
+-- where the columns were filled, from where their sums were tested
+abbrev filled : tie.After-both → tie.After-columns-of
+filled c = c .before .before .before .before .before
+
+-- ---- the calls
 scenario-numbers-requires : tie.Need-scenario-numbers-requires
 scenario-numbers-requires c κs = c .pre .scenario
 
 prepare-requires : tie.Need-prepare-requires
-prepare-requires c κs = factors-ready (c .scenario-numbers .ensures)
+prepare-requires c κs = all-own (c .scenario-numbers .ensures)
 
 contaminant-numbers-requires : tie.Need-contaminant-numbers-requires
-contaminant-numbers-requires c κs = c .before .before .pre .contaminant
+contaminant-numbers-requires c κs = let start = c .before .before in contaminant-parts (start .args .r) (start .pre .contaminant) .0
 
 terms-of-requires : tie.Need-terms-of-requires
-terms-of-requires c κs = (ready (c .before .prepare .ensures) (c .contaminant-numbers .ensures), (c .before .before .before .pre .media, c .before .before .before .pre .class))
+terms-of-requires c κs =
+    let prepared = c .before in
+    let p = prepared .before .before .pre in
+    (ready (prepared .prepare .ensures) (c .contaminant-numbers .ensures), (p .media, p .class))
 
 columns-of-requires : tie.Need-columns-of-requires
-columns-of-requires c κs =
-    let h : Terms-of (c .before .before .before .before .args .s) (c .before .before .before .before .args .medium) (c .before .before .before .before .args .r) (c .before .before .before .scenario-numbers .result) (c .before .before .prepare .result) (c .before .contaminant-numbers .result) (c .terms-of .result) = record { inputs = c .before .before .before .before .pre; factors = c .before .before .before .scenario-numbers .ensures; prepared = c .before .before .prepare .ensures; toxicity = c .before .contaminant-numbers .ensures; terms = c .terms-of .ensures } in
-    wide h
+columns-of-requires c κs = wide (terms c)
 
 both-requires : tie.Need-both-requires
 both-requires c κs = search needs
@@ -33,8 +77,9 @@ refused-requires c κs = search needs
 
 returns : tie.Need-returns
 returns c =
-    let h : Columns-of (c .before .before .before .before .before .before .before .before .before .before .before .before .args .s) (c .before .before .before .before .before .before .before .before .before .before .before .before .args .medium) (c .before .before .before .before .before .before .before .before .before .before .before .before .args .r) (c .before .before .before .before .before .before .before .before .before .before .before .scenario-numbers .result) (c .before .before .before .before .before .before .before .before .before .before .prepare .result) (c .before .before .before .before .before .before .before .before .before .contaminant-numbers .result) (c .before .before .before .before .before .before .before .before .terms-of .result) (c .before .before .before .before .before .before .before .columns-of .result .risk) (c .before .before .before .before .before .before .before .columns-of .result .hazard) = record { terms = record { inputs = c .before .before .before .before .before .before .before .before .before .before .before .before .pre; factors = c .before .before .before .before .before .before .before .before .before .before .before .scenario-numbers .ensures; prepared = c .before .before .before .before .before .before .before .before .before .before .prepare .ensures; toxicity = c .before .before .before .before .before .before .before .before .before .contaminant-numbers .ensures; terms = c .before .before .before .before .before .before .before .before .terms-of .ensures }; risk = c .before .before .before .before .before .before .before .columns-of .ensures .0; hazard = c .before .before .before .before .before .before .before .columns-of .ensures .1 } in
-    c .refused .ensures ∙ sym (none-out h (sym (c .before .before .both .ensures) ∙ c .before .if1 .taken))
+    let absent = c .before in
+    let tested = absent .before in
+    c .refused .ensures ∙ sym (none-out (columns (filled tested)) (sym (tested .both .ensures) ∙ absent .if1 .taken))
 
 column-ranged-requires : tie.Need-column-ranged-requires
 column-ranged-requires c κs = search needs
@@ -45,28 +90,35 @@ column-ranged-requires-2 c κs = search needs
 both-requires-2 : tie.Need-both-requires-2
 both-requires-2 c κs = search needs
 
+-- where the sums were tested, from where the ranges were
+abbrev tested : tie.After-both2 → tie.After-both
+tested c = c .before .before .before .before
+
 decimals-requires : tie.Need-decimals-requires
-decimals-requires c κs =
-    let h : Columns-of (c .before .before .before .before .before .before .before .before .before .before .before .before .before .before .before .args .s) (c .before .before .before .before .before .before .before .before .before .before .before .before .before .before .before .args .medium) (c .before .before .before .before .before .before .before .before .before .before .before .before .before .before .before .args .r) (c .before .before .before .before .before .before .before .before .before .before .before .before .before .before .scenario-numbers .result) (c .before .before .before .before .before .before .before .before .before .before .before .before .before .prepare .result) (c .before .before .before .before .before .before .before .before .before .before .before .before .contaminant-numbers .result) (c .before .before .before .before .before .before .before .before .before .before .before .terms-of .result) (c .before .before .before .before .before .before .before .before .before .before .columns-of .result .risk) (c .before .before .before .before .before .before .before .before .before .before .columns-of .result .hazard) = record { terms = record { inputs = c .before .before .before .before .before .before .before .before .before .before .before .before .before .before .before .pre; factors = c .before .before .before .before .before .before .before .before .before .before .before .before .before .before .scenario-numbers .ensures; prepared = c .before .before .before .before .before .before .before .before .before .before .before .before .before .prepare .ensures; toxicity = c .before .before .before .before .before .before .before .before .before .before .before .before .contaminant-numbers .ensures; terms = c .before .before .before .before .before .before .before .before .before .before .before .terms-of .ensures }; risk = c .before .before .before .before .before .before .before .before .before .before .columns-of .ensures .0; hazard = c .before .before .before .before .before .before .before .before .before .before .columns-of .ensures .1 } in
-    column-printable (risk-column h)
+decimals-requires c κs = column-printable (risk-column (columns (filled (tested (c .before)))))
 
 decimals-requires-2 : tie.Need-decimals-requires-2
-decimals-requires-2 c κs =
-    let h : Columns-of (c .before .before .before .before .before .before .before .before .before .before .before .before .before .before .before .before .args .s) (c .before .before .before .before .before .before .before .before .before .before .before .before .before .before .before .before .args .medium) (c .before .before .before .before .before .before .before .before .before .before .before .before .before .before .before .before .args .r) (c .before .before .before .before .before .before .before .before .before .before .before .before .before .before .before .scenario-numbers .result) (c .before .before .before .before .before .before .before .before .before .before .before .before .before .before .prepare .result) (c .before .before .before .before .before .before .before .before .before .before .before .before .before .contaminant-numbers .result) (c .before .before .before .before .before .before .before .before .before .before .before .before .terms-of .result) (c .before .before .before .before .before .before .before .before .before .before .before .columns-of .result .risk) (c .before .before .before .before .before .before .before .before .before .before .before .columns-of .result .hazard) = record { terms = record { inputs = c .before .before .before .before .before .before .before .before .before .before .before .before .before .before .before .before .pre; factors = c .before .before .before .before .before .before .before .before .before .before .before .before .before .before .before .scenario-numbers .ensures; prepared = c .before .before .before .before .before .before .before .before .before .before .before .before .before .before .prepare .ensures; toxicity = c .before .before .before .before .before .before .before .before .before .before .before .before .before .contaminant-numbers .ensures; terms = c .before .before .before .before .before .before .before .before .before .before .before .before .terms-of .ensures }; risk = c .before .before .before .before .before .before .before .before .before .before .before .columns-of .ensures .0; hazard = c .before .before .before .before .before .before .before .before .before .before .before .columns-of .ensures .1 } in
-    column-printable (hazard-column h)
+decimals-requires-2 c κs = column-printable (hazard-column (columns (filled (tested (c .before .before)))))
 
 returns-2 : tie.Need-returns-2
 returns-2 c =
-    let h : Columns-of (c .before .before .before .before .before .before .before .before .before .before .before .before .before .before .before .before .before .args .s) (c .before .before .before .before .before .before .before .before .before .before .before .before .before .before .before .before .before .args .medium) (c .before .before .before .before .before .before .before .before .before .before .before .before .before .before .before .before .before .args .r) (c .before .before .before .before .before .before .before .before .before .before .before .before .before .before .before .before .scenario-numbers .result) (c .before .before .before .before .before .before .before .before .before .before .before .before .before .before .before .prepare .result) (c .before .before .before .before .before .before .before .before .before .before .before .before .before .before .contaminant-numbers .result) (c .before .before .before .before .before .before .before .before .before .before .before .before .before .terms-of .result) (c .before .before .before .before .before .before .before .before .before .before .before .before .columns-of .result .risk) (c .before .before .before .before .before .before .before .before .before .before .before .before .columns-of .result .hazard) = record { terms = record { inputs = c .before .before .before .before .before .before .before .before .before .before .before .before .before .before .before .before .before .pre; factors = c .before .before .before .before .before .before .before .before .before .before .before .before .before .before .before .before .scenario-numbers .ensures; prepared = c .before .before .before .before .before .before .before .before .before .before .before .before .before .before .before .prepare .ensures; toxicity = c .before .before .before .before .before .before .before .before .before .before .before .before .before .before .contaminant-numbers .ensures; terms = c .before .before .before .before .before .before .before .before .before .before .before .before .before .terms-of .ensures }; risk = c .before .before .before .before .before .before .before .before .before .before .before .before .columns-of .ensures .0; hazard = c .before .before .before .before .before .before .before .before .before .before .before .before .columns-of .ensures .1 } in
-    rw (c .before .decimals .ensures, c .decimals2 .ensures) (sym (accepted-out h (sym (c .before .before .before .before .before .before .before .both .ensures) ∙ c .before .before .before .before .before .before .if1 .left)))
+    let risk = c .before in
+    let ranged = risk .before .before in
+    let some = ranged .before .before .before in
+    let sums = tested ranged in
+    rw (risk .decimals .ensures, c .decimals2 .ensures) (sym (accepted-out (columns (filled sums)) (sym (sums .both .ensures) ∙ some .if1 .left)))
 
 refused-requires-2 : tie.Need-refused-requires-2
 refused-requires-2 c κs = search needs
 
 returns-3 : tie.Need-returns-3
 returns-3 c =
-    let h : Columns-of (c .before .before .before .before .before .before .before .before .before .before .before .before .before .before .before .before .args .s) (c .before .before .before .before .before .before .before .before .before .before .before .before .before .before .before .before .args .medium) (c .before .before .before .before .before .before .before .before .before .before .before .before .before .before .before .before .args .r) (c .before .before .before .before .before .before .before .before .before .before .before .before .before .before .before .scenario-numbers .result) (c .before .before .before .before .before .before .before .before .before .before .before .before .before .before .prepare .result) (c .before .before .before .before .before .before .before .before .before .before .before .before .before .contaminant-numbers .result) (c .before .before .before .before .before .before .before .before .before .before .before .before .terms-of .result) (c .before .before .before .before .before .before .before .before .before .before .before .columns-of .result .risk) (c .before .before .before .before .before .before .before .before .before .before .before .columns-of .result .hazard) = record { terms = record { inputs = c .before .before .before .before .before .before .before .before .before .before .before .before .before .before .before .before .pre; factors = c .before .before .before .before .before .before .before .before .before .before .before .before .before .before .before .scenario-numbers .ensures; prepared = c .before .before .before .before .before .before .before .before .before .before .before .before .before .before .prepare .ensures; toxicity = c .before .before .before .before .before .before .before .before .before .before .before .before .before .contaminant-numbers .ensures; terms = c .before .before .before .before .before .before .before .before .before .before .before .before .terms-of .ensures }; risk = c .before .before .before .before .before .before .before .before .before .before .before .columns-of .ensures .0; hazard = c .before .before .before .before .before .before .before .before .before .before .before .columns-of .ensures .1 } in
-    absurd (false≢true (sym (c .before .if2 .left) ∙ c .before .before .both2 .ensures ∙ rw (c .before .before .before .before .column-ranged .ensures, c .before .before .before .column-ranged2 .ensures) (in-range h)))
+    let out = c .before in
+    let ranged = out .before in
+    let hazard = ranged .before in
+    let risk = hazard .before in
+    let good = in-range (columns (filled (tested ranged))) in
+    absurd (false≢true (sym (out .if2 .left) ∙ ranged .both2 .ensures ∙ rw (risk .column-ranged .ensures, hazard .column-ranged2 .ensures) good))
 
 pub worked-out-spec : {M : Type 1} → statement M
 worked-out-spec =

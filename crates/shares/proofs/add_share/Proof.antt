@@ -23,10 +23,14 @@ either-requires c κs = search needs
 
 returns : tie.Need-returns
 returns c =
-    let a = c .before .before .before .before .before .before .args in
+    let upper = c .before .before in
+    let lower = upper .before in
+    let great = lower .before in
+    let small = great .before in
+    let x = small .before .args .x in
     record {
-      below = c .before .before .before .add .ensures .0 ∙ ap (sumOf Down (a .x .lower)) (c .before .before .before .before .before .mul .ensures .0);
-      above = c .before .before .add2 .ensures .0 ∙ ap (sumOf Up (a .x .upper)) (c .before .before .before .before .mul2 .ensures .0);
+      below = lower .add .ensures .0 ∙ ap (sumOf Down (x .lower)) (small .mul .ensures .0);
+      above = upper .add2 .ensures .0 ∙ ap (sumOf Up (x .upper)) (great .mul2 .ensures .0);
       some = c .either .ensures;
     }
 

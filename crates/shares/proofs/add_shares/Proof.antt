@@ -1,13 +1,12 @@
 -- `shares::add_shares` meets its contract. Assumes nothing.
-use borrow.Author.Needs.{needs}
 use Rattle.shares.proofs.add_shares.Statement.{statement}
 use Rattle.shares.proofs.add_shares.Tie as tie
 
 add-share-requires : tie.Need-add-share-requires
-add-share-requires c κs = ((c .pre .c, c .pre .risk-run), (c .pre .risk-lower, c .pre .risk-upper))
+add-share-requires c κs = let p = c .pre in ((p .c, p .risk-run), (p .risk-lower, p .risk-upper))
 
 add-share-requires-2 : tie.Need-add-share-requires-2
-add-share-requires-2 c κs = ((c .before .pre .c, c .before .pre .hazard-run), (c .before .pre .hazard-lower, c .before .pre .hazard-upper))
+add-share-requires-2 c κs = let p = c .before .pre in ((p .c, p .hazard-run), (p .hazard-lower, p .hazard-upper))
 
 returns : tie.Need-returns
 returns c = record { risk = c .before .add-share .ensures; hazard = c .add-share2 .ensures }

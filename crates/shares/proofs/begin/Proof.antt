@@ -5,6 +5,7 @@ use mathlib.Core.Logic.{inl}
 use lib.Dec.{leb}
 use borrow.Author.Tests.{eqb-true, eqb-false}
 use Rattle.outcome.specs.Outcome.{numberOf}
+use Rattle.inputs.specs.Inputs.{scenarioOf, exposureOf, contactOf, targetsOf}
 use Rattle.inputs.specs.Rules.{scenarioFits, lacksFactor}
 use Rattle.sum_rules.proofs.Runs.{first-passed}
 use Rattle.shares.proofs.Plans.{blank-valid, fits-parts}
@@ -19,19 +20,38 @@ accepted-requires : tie.Need-accepted-requires
 accepted-requires c κs = search needs
 
 planned-requires : tie.Need-planned-requires
-planned-requires c κs = fits-parts (c .before .before .before .args .s) (c .before .before .before .args .medium) (first-passed (leb 1 (c .before .before .before .args .n) && leb (c .before .before .before .args .n) 120) (scenarioFits (c .before .before .before .args .s) (c .before .before .before .args .medium)) (lacksFactor (c .before .before .before .args .s)) (sym (ap numberOf (c .before .before .first-refusal .ensures)) ∙ eqb-true (numberOf (c .before .before .first-refusal .result)) 0 (sym (c .before .accepted .ensures) ∙ c .if1 .taken)) .1 .0)
+planned-requires c κs =
+    let asked = c .before in
+    let refusal = asked .before in
+    let a = refusal .before .args in
+    let accepted = sym (asked .accepted .ensures) ∙ c .if1 .taken in
+    let zero = sym (ap numberOf (refusal .first-refusal .ensures)) ∙ eqb-true (numberOf (refusal .first-refusal .result)) 0 accepted in
+    fits-parts (a .s) (a .medium) (first-passed (leb 1 (a .n) && leb (a .n) 120) (scenarioFits (a .s) (a .medium)) (lacksFactor (a .s)) zero .1 .0)
 
 returns : tie.Need-returns
 returns c =
-    record { ready = c .planned .ensures .ready; refused = c .planned .ensures .refused ∙ c .before .before .before .first-refusal .ensures; scenario = λ z. c .planned .ensures .scenario; media = λ z. c .planned .ensures .media }
+    let p = c .planned .ensures in
+    let refusal = c .before .before .before in
+    record { ready = p .ready; refused = p .refused ∙ refusal .first-refusal .ensures; scenario = λ z. p .scenario; media = λ z. p .media }
 
 planned-requires-2 : tie.Need-planned-requires-2
+unfolding scenarioOf exposureOf contactOf targetsOf
 planned-requires-2 c κs = (blank-valid, inl refl)
 
 returns-2 : tie.Need-returns-2
 returns-2 c =
-    let no : numberOf (c .before .before .before .first-refusal .result) ≡ 0 → ⊥ = eqb-false (numberOf (c .before .before .before .first-refusal .result)) 0 (sym (c .before .before .accepted .ensures) ∙ c .before .if1 .left) in
-    record { ready = c .planned2 .ensures .ready; refused = c .planned2 .ensures .refused ∙ c .before .before .before .first-refusal .ensures; scenario = λ z. absurd (no (sym (ap numberOf (c .planned2 .ensures .refused)) ∙ z)); media = λ z. absurd (no (sym (ap numberOf (c .planned2 .ensures .refused)) ∙ z)) }
+    let p = c .planned2 .ensures in
+    let left = c .before in
+    let asked = left .before in
+    let refusal = asked .before in
+    let not-accepted = sym (asked .accepted .ensures) ∙ left .if1 .left in
+    let no : numberOf (refusal .first-refusal .result) ≡ 0 → ⊥ = eqb-false (numberOf (refusal .first-refusal .result)) 0 not-accepted in
+    record {
+      ready = p .ready;
+      refused = p .refused ∙ refusal .first-refusal .ensures;
+      scenario = λ z. absurd (no (sym (ap numberOf (p .refused)) ∙ z));
+      media = λ z. absurd (no (sym (ap numberOf (p .refused)) ∙ z));
+    }
 
 pub begin-spec : {M : Type 1} → statement M
 begin-spec = tie.close (tie.spec first-refusal-requires accepted-requires planned-requires returns planned-requires-2 returns-2)

@@ -4,7 +4,7 @@ use Rattle.rounding.specs.declared.Direction.the-variants.{Down, Up}
 use Rattle.factors.specs.declared.numbers.Factors.{Factors}
 use Rattle.factors.specs.Stands.{FactorsFor}
 use Rattle.factors.specs.Prepared.{PreparedFor}
-use Rattle.terms.proofs.SameValues.{factors-ready}
+use Rattle.factors.proofs.StandsLaws.{all-own}
 use borrow.Author.Needs.{needs}
 use Rattle.shares.proofs.planned.Statement.{statement}
 use Rattle.shares.proofs.planned.Tie as tie
@@ -13,20 +13,23 @@ scenario-numbers-requires : tie.Need-scenario-numbers-requires
 scenario-numbers-requires c κs = search needs
 
 prepare-requires : tie.Need-prepare-requires
-prepare-requires c κs = factors-ready (c .scenario-numbers .ensures)
+prepare-requires c κs = all-own (c .scenario-numbers .ensures)
 
 prepare-requires-2 : tie.Need-prepare-requires-2
-prepare-requires-2 c κs = factors-ready (c .before .scenario-numbers .ensures)
+prepare-requires-2 c κs = all-own (c .before .scenario-numbers .ensures)
 
 returns : tie.Need-returns
 returns c =
-    let same = sym (c .before .prepare .ensures .same) in
+    let up = c .before in
+    let numbers = up .before in
+    let start = numbers .before in
+    let same = sym (up .prepare .ensures .same) in
     record {
       ready = record {
-        valid = c .before .before .before .pre .0;
-        media = c .before .before .before .pre .1;
-        factors = subst (FactorsFor (c .before .before .before .args .s)) same (c .before .before .scenario-numbers .ensures);
-        up = subst (λ (f : Factors). PreparedFor Up f (c .before .prepare .result)) same (c .before .prepare .ensures);
+        valid = start .pre .0;
+        media = start .pre .1;
+        factors = subst (FactorsFor (start .args .s)) same (numbers .scenario-numbers .ensures);
+        up = subst (λ (f : Factors). PreparedFor Up f (up .prepare .result)) same (up .prepare .ensures);
         down = subst (λ (f : Factors). PreparedFor Down f (c .prepare2 .result)) same (c .prepare2 .ensures);
       };
       scenario = refl;
