@@ -55,12 +55,12 @@ module _ {p : Plan} {r : Contaminant} {w : Worked} (ready : PlanReady p) (passed
   can = record { ready = ready; passed = passed; contaminant = ok .fits }
 
   terms-of : Terms-of (p .scenario) (p .medium) r (p .up .factors) (p .up) (k .numbers) (w .above)
-  terms-of = record { inputs = inputs-of can; factors = ready .factors; prepared = ready .up; toxicity = k .toxicity; terms = k .upper-terms }
+  terms-of = record { inputs = inputs-of can; factors = ready .factors; prepared = ready .up; numbers = k .stands; terms = k .upper-terms }
 
-  pub block-wide : (Wide (p .up .factors .tr) × WideSide (w .above .risk)) × (Wide (p .up .factors .thi) × WideSide (w .above .hazard))
+  pub block-wide : (Wide (p .up .factors .targets .tr) × WideSide (w .above .risk)) × (Wide (p .up .factors .targets .thi) × WideSide (w .above .hazard))
   block-wide = wide terms-of
 
-  module _ {x y : Column} (u : ColumnFor (p .up .factors .tr) (w .above .risk) x) (v : ColumnFor (p .up .factors .thi) (w .above .hazard) y) where
+  module _ {x y : Column} (u : ColumnFor (p .up .factors .targets .tr) (w .above .risk) x) (v : ColumnFor (p .up .factors .targets .thi) (w .above .hazard) y) where
     columns-of : Columns-of (p .scenario) (p .medium) r (p .up .factors) (p .up) (k .numbers) (w .above) x y
     columns-of = record { terms = terms-of; risk = u; hazard = v }
 

@@ -11,7 +11,7 @@ use Rattle.rounding.specs.Operations.{productOf, sumOf}
 use Rattle.decimal.specs.Decimal.{workingOf}
 use Rattle.inputs.specs.declared.Scenario.{Scenario}
 use Rattle.inputs.specs.declared.Contaminant.{Contaminant}
-use Rattle.terms.specs.declared.pathways.Side.{Side}
+use Rattle.terms.specs.declared.pathways.PathwayTerms.{PathwayTerms}
 use Rattle.formulas.specs.Formula.{pathwaysOf}
 use Rattle.formulas.specs.Term.{inputsOf, valuesOf}
 use Rattle.factors.specs.Stands.{Stands}
@@ -27,12 +27,12 @@ use Rattle.shares.specs.Plan.{runningOf, Shared}
 use Rattle.sums.specs.State.{SideReady}
 
 -- the terms of a side in a direction, and their sum
-pub record DirectedTerms (dir : Direction) (s : Scenario) (medium : ℕ) (r : Contaminant) (side : ℕ) (t : Side) (a : Number) : Type 0 where
+pub record DirectedTerms (dir : Direction) (s : Scenario) (medium : ℕ) (r : Contaminant) (side : ℕ) (t : PathwayTerms) (a : Number) : Type 0 where
   pub terms : SideStands dir (valuesOf dir (inputsOf s r)) (pathwaysOf medium (r .class) side) t
   pub sum : a ≡ sumOf dir (sumOf dir (t .first) (t .second)) (t .third)
 
 -- both directions, and the concentration
-pub record SideTerms (s : Scenario) (medium : ℕ) (r : Contaminant) (side : ℕ) (p q : Side) (a b k : Number) : Type 0 where
+pub record SideTerms (s : Scenario) (medium : ℕ) (r : Contaminant) (side : ℕ) (p q : PathwayTerms) (a b k : Number) : Type 0 where
   pub accepted : Accepted s medium r
   pub place : side < 2
   pub above : DirectedTerms Up s medium r side p a
@@ -40,7 +40,8 @@ pub record SideTerms (s : Scenario) (medium : ℕ) (r : Contaminant) (side : ℕ
   pub c : Stands 28 k (workingOf (r .c))
 
 -- ---- once for both directions
-module _ (dir : Direction) {s : Scenario} {medium : ℕ} {r : Contaminant} {side : ℕ} {t : Side} {a : Number} (g : Accepted s medium r) (l : side < 2) (h : DirectedTerms dir s medium r side t a) where
+module _ (dir : Direction) {s : Scenario} {medium : ℕ} {r : Contaminant} {side : ℕ} {t : PathwayTerms} {a : Number} (g : Accepted s medium r) (l : side < 2)
+    (h : DirectedTerms dir s medium r side t a) where
   -- the number stands for the sum of the terms
   sum-is : Stands 602 a (termSum s medium r dir side)
   unfolding termSum
@@ -55,7 +56,7 @@ module _ (dir : Direction) {s : Scenario} {medium : ℕ} {r : Contaminant} {side
   sum-next x k low high f e = stands-is (sym (next-sum dir s medium side x r)) (stands-add dir f (stands-mul dir k sum-is (lit≤ tt) refl) (omega (arith, high)) low e)
 
 -- ---- both
-module _ {s : Scenario} {medium : ℕ} {r : Contaminant} {side : ℕ} {above below : Side} {upper lower c : Number} (h : SideTerms s medium r side above below upper lower c) where
+module _ {s : Scenario} {medium : ℕ} {r : Contaminant} {side : ℕ} {above below : PathwayTerms} {upper lower c : Number} (h : SideTerms s medium r side above below upper lower c) where
   -- the side has a pathway exactly when its upper term sum is above zero
   pub has-pathway : not (eqb (upper .m) 0) ≡ hasPathway s medium r side
   unfolding hasPathway termSum

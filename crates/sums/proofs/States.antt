@@ -17,8 +17,7 @@ use Rattle.inputs.specs.Inputs.{scenarioDecimals}
 use Rattle.inputs.specs.Valid.{validOf, allValid}
 use Rattle.inputs.specs.Rules.{oneOrTwo, scenarioFits, contaminantFits, OneOrTwo}
 use Rattle.inputs.proofs.Tests.{and-split, one-or-two}
-use Rattle.factors.proofs.StandsLaws.{stands-most}
-use Rattle.terms.proofs.NumberValues.{zero-stands}
+use Rattle.factors.proofs.StandsLaws.{zero-stands, stands-most}
 use Rattle.shares.specs.declared.Plan.{Plan}
 use Rattle.sums.specs.declared.State.{State}
 use Rattle.sum_rules.specs.Share.{hasPathway}

@@ -9,13 +9,13 @@ use borrow.Author.Tests.{eq-eqb}
 use Rattle.rounding.specs.declared.Direction.the-variants.{Down, Up}
 use Rattle.rounding.specs.declared.Number.{Number}
 use Rattle.rounding.specs.Operations.{sumOf}
-use Rattle.decimal.specs.Decimal.{workingOf}
 use Rattle.outcome.specs.Outcome.{numberOf}
 use Rattle.inputs.specs.declared.Scenario.{Scenario}
 use Rattle.inputs.specs.declared.Contaminant.{Contaminant}
-use Rattle.terms.specs.declared.pathways.Side.{Side}
-use Rattle.terms.specs.Side.{TotalSize}
-use Rattle.factors.specs.Stands.{Stands, Input}
+use Rattle.formulas.specs.Term.{inputsOf, valuesOf}
+use Rattle.terms.specs.declared.pathways.PathwayTerms.{PathwayTerms}
+use Rattle.terms.specs.Side.{numberValues, TotalSize}
+use Rattle.factors.specs.Stands.{Input}
 use Rattle.factors.proofs.StandsLaws.{stands-own}
 use Rattle.terms.proofs.SameValues.{values-same}
 use Rattle.guideline_rules.proofs.Accepted.{Accepted, accepted-inputs}
@@ -32,7 +32,7 @@ use Rattle.sums.specs.State.{steps, answerFrom, SideReady, RunsReady, St
 use Rattle.sums.proofs.NextSums.{SideTerms, next-ready, next-is}
 
 -- the sum of a side's upper terms
-abbrev pub UpperSum : Side → Number → Type 0
+abbrev pub UpperSum : PathwayTerms → Number → Type 0
 UpperSum s a = a ≡ sumOf Up (sumOf Up (s .first) (s .second)) (s .third)
 
 -- sums of n records leave room for a share
@@ -44,28 +44,31 @@ ready-size h k = record {
 
 module _ {p : Plan} {r : Contaminant} {w : Worked} (h : Workable p r) (k : WorkedFor p r w) where
   pub concentration : Input (w .c)
-  concentration = subst (λ (c : Number). Input c) (sym (k .c)) (stands-own (k .toxicity .c))
+  concentration = stands-own (k .c)
 
-  c-stands : Stands 28 (w .c) (workingOf (r .c))
-  c-stands = subst (λ (c : Number). Stands 28 c (workingOf (r .c))) (sym (k .c)) (k .toxicity .c)
+  up-same : numberValues Up (p .up .factors) (k .numbers) ≡ valuesOf Up (inputsOf (p .scenario) r)
+  up-same = values-same Up (p .scenario) r (h .ready .factors) (h .ready .up) (k .stands)
+
+  down-same : numberValues Down (p .down .factors) (k .numbers) ≡ valuesOf Down (inputsOf (p .scenario) r)
+  down-same = values-same Down (p .scenario) r (h .ready .factors) (h .ready .down) (k .stands)
 
   module _ {a b : Number} (u : UpperSum (w .above .risk) a) (v : UpperSum (w .above .hazard) b) where
     risk-side : SideTerms (p .scenario) (p .medium) r 0 (w .above .risk) (k .below .risk) a (w .risk) (w .c)
     risk-side = record {
       accepted = inputs-of h;
       place = lit< tt;
-      above = record { terms = sides (values-same Up (h .ready .factors) (h .ready .up) (k .toxicity)) (k .upper-terms .risk); sum = u };
-      below = record { terms = sides (values-same Down (h .ready .factors) (h .ready .down) (k .toxicity)) (k .lower-terms .risk); sum = k .risk };
-      c = c-stands;
+      above = record { terms = sides up-same (k .upper-terms .risk); sum = u };
+      below = record { terms = sides down-same (k .lower-terms .risk); sum = k .risk };
+      c = k .c;
     }
 
     hazard-side : SideTerms (p .scenario) (p .medium) r 1 (w .above .hazard) (k .below .hazard) b (w .hazard) (w .c)
     hazard-side = record {
       accepted = inputs-of h;
       place = lit< tt;
-      above = record { terms = sides (values-same Up (h .ready .factors) (h .ready .up) (k .toxicity)) (k .upper-terms .hazard); sum = v };
-      below = record { terms = sides (values-same Down (h .ready .factors) (h .ready .down) (k .toxicity)) (k .lower-terms .hazard); sum = k .hazard };
-      c = c-stands;
+      above = record { terms = sides up-same (k .upper-terms .hazard); sum = v };
+      below = record { terms = sides down-same (k .lower-terms .hazard); sum = k .hazard };
+      c = k .c;
     }
 
     pub next-runs : {n : ℕ} {x y : Runs} → n ≤ 121 → RunsReady (632 + n) x → Added x w a b y → NextRuns p r n x y
@@ -98,7 +101,8 @@ pub workable : {p : Plan} {t : State} {r : Contaminant} → Advancing p t r → 
 workable h = record { ready = h .good .ready; passed = h .good .passed (h .accepted); contaminant = h .fits }
 
 module _ {p : Plan} {t : State} {r : Contaminant} (h : Advancing p t r) where
-  accepted-answer : (u : State) (rs : List Contaminant) → numberOf (u .refusal) ≡ 0 → answerFrom p u rs ≡ steps (p .scenario) (p .medium) rs (u .place) (u .previous) (runningOf (u .runs .risk)) (runningOf (u .runs .hazard))
+  accepted-answer : (u : State) (rs : List Contaminant) → numberOf (u .refusal) ≡ 0 →
+      answerFrom p u rs ≡ steps (p .scenario) (p .medium) rs (u .place) (u .previous) (runningOf (u .runs .risk)) (runningOf (u .runs .hazard))
   unfolding answerFrom
   accepted-answer u rs e = rw (eq-eqb (numberOf (u .refusal)) 0 e)
 
@@ -109,7 +113,8 @@ module _ {p : Plan} {t : State} {r : Contaminant} (h : Advancing p t r) where
   steps-next rs e = rw (h .fits, h .rising, e)
 
   module _ {y : Runs} (n : NextRuns p r (t .place) (t .runs) y) where
-    moved-answer : (rs : List Contaminant) → hasPathway (p .scenario) (p .medium) r 0 || hasPathway (p .scenario) (p .medium) r 1 ≡ true → answerFrom p t (r ∷ rs) ≡ answerFrom p (movedOf t (r .id) y) rs
+    moved-answer : (rs : List Contaminant) → hasPathway (p .scenario) (p .medium) r 0 || hasPathway (p .scenario) (p .medium) r 1 ≡ true →
+        answerFrom p t (r ∷ rs) ≡ answerFrom p (movedOf t (r .id) y) rs
     moved-answer rs e =
         accepted-answer t (r ∷ rs) (h .accepted) ∙ steps-next rs e ∙
         ap (λ (x : Running). steps (p .scenario) (p .medium) rs (t .place + 1) (r .id) x (next (p .scenario) (p .medium) 1 (runningOf (t .runs .hazard)) r)) (sym (n .risk)) ∙

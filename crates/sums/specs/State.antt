@@ -106,4 +106,5 @@ sideSumsOf x target = record {
 }
 
 abbrev pub reportedOf : Scenario → Runs → SumsAnswer
-reportedOf s x = record { refusal = Accepted; block = 0; risk = sideSumsOf (x .risk) (workingOf (s .tr)); hazard = sideSumsOf (x .hazard) (workingOf (s .thi)) }
+reportedOf s x =
+    record { refusal = Accepted; block = 0; risk = sideSumsOf (x .risk) (workingOf (s .targets .tr)); hazard = sideSumsOf (x .hazard) (workingOf (s .targets .thi)) }

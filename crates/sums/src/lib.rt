@@ -176,12 +176,12 @@ pub fn reported(p: Plan, x: Runs) -> SumsAnswer
     requires { ⌜ PlanReady p × RunsReady 753 x ⌝ }
     ensures { λ a. ⌜ a ≡ reportedOf (p .scenario) x ⌝ }
 {
-    let f = p.up.factors;
+    let targets = p.up.factors.targets;
     SumsAnswer {
         refusal: Refusal::Accepted,
         block: 0,
-        risk: side_sums(x.risk, f.tr),
-        hazard: side_sums(x.hazard, f.thi),
+        risk: side_sums(x.risk, targets.tr),
+        hazard: side_sums(x.hazard, targets.thi),
     }
 }
 
