@@ -1,5 +1,5 @@
 -- Inputs that passed conditions 4 and 6: what they keep, and that their values stand for their exact fractions. Assumes nothing.
-use mathlib.Core.Path.{_≡_, refl, sym, _∙_}
+use mathlib.Core.Path.{_≡_, refl}
 use mathlib.Core.Bool.{Bool, true, false, _&&_, not}
 use Prim.Native.Nat.{ℕ}
 use lib.Dec.{eqb}
@@ -11,7 +11,7 @@ use Rattle.inputs.specs.Rules.{OneOrTwo, oneOrTwo, scenarioFits, lacksFactor, s
 use mathlib.Core.List.{[], _∷_, _++_}
 use borrow.Author.Tests.{not-true, not-false}
 use Rattle.rounding.specs.declared.Direction.{Direction}
-use Rattle.inputs.proofs.Tests.{and-split, valid-append, valid-join, one-or-two}
+use Rattle.inputs.proofs.Tests.{and-split, valid-append, contaminant-parts, one-or-two}
 use Rattle.formulas.specs.Term.{constants, inputsOf, valuesFor}
 use Rattle.formulas.specs.ExactTerm.{exactFor}
 use Rattle.formulas.proofs.TermBounds.{Represents}
@@ -36,8 +36,8 @@ constants-valid = refl
 
 pub inputs-valid : (s : Scenario) (r : Contaminant) → allValid (scenarioDecimals s) ≡ true → allValid (contaminantDecimals r) ≡ true → allValid (inputsOf s r) ≡ true
 inputs-valid s r h k =
-    let f = and-split (allValid (formulaDecimals r)) _ (sym (valid-join (formulaDecimals r) (r .c ∷ [])) ∙ k) in
-    valid-append constants (scenarioDecimals s ++ formulaDecimals r) constants-valid (valid-append (scenarioDecimals s) (formulaDecimals r) h (f .0))
+    let named = contaminant-parts r k .0 in
+    valid-append constants (scenarioDecimals s ++ formulaDecimals r) constants-valid (valid-append (scenarioDecimals s) (formulaDecimals r) h named)
 
 pub values-of : (dir : Direction) (s : Scenario) (medium : ℕ) (r : Contaminant) → Accepted s medium r → Represents dir (valuesFor dir s r) (exactFor s r)
 values-of dir s medium r a = values-stand dir (inputsOf s r) (inputs-valid s r (a .scenario) (a .contaminant))
