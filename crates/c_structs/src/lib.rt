@@ -1,5 +1,6 @@
 // The structs and words of the C header: a header or a contaminant out of its bytes, the eight guidelines into theirs, and answers as a word.
 use block_rules::Header;
+use block_rules::STRUCT_SIZE;
 use guideline_rules::SideGuidelines;
 use inputs::Contaminant;
 use inputs::Scenario;
@@ -21,10 +22,10 @@ pub fn header_from(header: &[u8]) -> Header
         count: 0,
         scenario: Scenario::BLANK,
     };
-    if header.len() != 104 {
+    if header.len() != STRUCT_SIZE {
         return none;
     }
-    if !fields::unused_zero(header, 8, 12) {
+    if !blocks::header_unused(header, 0) {
         return none;
     }
     blocks::get_header(header, 0)
@@ -34,10 +35,10 @@ pub fn header_from(header: &[u8]) -> Header
 pub fn contaminant_from(contaminant: &[u8]) -> Contaminant
     ensures { λ r. ⌜ (r ≡ contaminantFrom (now (contaminant .entry))) × (r .id < 4294967296) ⌝ }
 {
-    if contaminant.len() != 72 {
+    if contaminant.len() != STRUCT_SIZE {
         return Contaminant::NONE;
     }
-    if !fields::unused_zero(contaminant, 8, 8) {
+    if !blocks::contaminant_unused(contaminant, 0) {
         return Contaminant::NONE;
     }
     blocks::get_contaminant(contaminant, 0)

@@ -11,9 +11,10 @@ use Rattle.outcome.specs.Outcome.{numberOf}
 use Rattle.inputs.specs.declared.Contaminant.{Contaminant}
 use Rattle.inputs.specs.BuiltIn.{noContaminant, builtInOf}
 use Rattle.words.specs.Bytes.{over}
-use Rattle.fields.specs.Fields.{unusedZero, fieldBytes}
+use Rattle.fields.specs.Fields.{fieldBytes}
 use Rattle.block_rules.specs.declared.Header.{Header}
-use Rattle.block_rules.specs.Reading.{noHeader, headerAt, contaminantAt}
+use Rattle.block_rules.specs.Rules.{structSize}
+use Rattle.block_rules.specs.Reading.{noHeader, headerAt, headerUnused, contaminantAt, contaminantUnused}
 use Rattle.block_rules.specs.Layouts.{headerBlock, guidelineDecimals}
 use Rattle.block_rules.specs.Answers.{headerRefusal, leftBy}
 use Rattle.guideline_rules.specs.declared.GuidelineAnswer.{GuidelineAnswer}
@@ -36,18 +37,16 @@ pub record Unpacked (word number block risk hazard : ℕ) : Type 0 where
   pub risk-part : word / 65536 % 256 ≡ risk
   pub hazard-part : word / 16777216 % 256 ≡ hazard
 
--- ---- structs of C: a struct of another length, or with a byte that is not zero in the last two of a decimal, stands for a record that
--- keeps no rule, so that refusal 4 is sent back in its turn
--- a header: medium, count, twelve decimals of eight bytes
+-- ---- structs of C: bytes 8 to 507 of a block. A struct of another length, or with an unused byte that is not zero, stands for a record that keeps
+-- no rule, so that refusal 4 is sent back in its turn
 unfoldable pub headerForm : List ℕ → Bool
-headerForm l = eqb (length l) 104 && unusedZero l 8 12
+headerForm l = eqb (length l) structSize && headerUnused l 0
 
 unfoldable pub headerFrom : List ℕ → Header
 headerFrom l = cond (headerForm l) (headerAt l 0) noHeader
 
--- a contaminant: class, id, eight decimals
 unfoldable pub contaminantForm : List ℕ → Bool
-contaminantForm l = eqb (length l) 72 && unusedZero l 8 8
+contaminantForm l = eqb (length l) structSize && contaminantUnused l 0
 
 unfoldable pub contaminantFrom : List ℕ → Contaminant
 contaminantFrom l = cond (contaminantForm l) (contaminantAt l 0) noContaminant
