@@ -16,7 +16,7 @@ int main(void)
     /* A chemical: oral slope factor 1 per mg/kg-day, oral reference dose 0.02 mg/kg-day, 2 mg/kg measured. */
     struct gv_contaminant chemical = {
         .class_ = 1, .id = 1, .sfo = {.m = 1}, .rfdo = {.m = 2, .e = -2}, .c = {.m = 2}};
-    refusal = gv_write_contaminant(site + GV_BLOCK, GV_BLOCK, 1, (const uint8_t *)&chemical, sizeof chemical);
+    refusal = gv_put_contaminant(site + GV_BLOCK, GV_BLOCK, 1, &chemical);
     if (refusal != GV_ACCEPTED) {
         printf("contaminant refused: %u\n", refusal);
         return 1;

@@ -9,15 +9,16 @@ extern "C" {
 }
 
 const BLOCK: usize = 512;
+const STRUCT: usize = 500;
 
 /// A header block with a built-in scenario; the number of the refusal otherwise.
 fn write_built_in(out: &mut [u8], number: u32, medium: u32, count: u32) -> u32 {
     unsafe { gv_write_built_in(out.as_mut_ptr(), out.len(), number, medium, count) }
 }
 
-/// The block of a contaminant: its class and id, then its eight decimals (m, e).
+/// The block of a contaminant: its class and id, its eight decimals (m, e), then zero bytes.
 fn write_contaminant(out: &mut [u8], place: u32, class: u32, id: u32, decimals: [(u32, i16); 8]) -> u32 {
-    let mut record = Vec::with_capacity(72);
+    let mut record = Vec::with_capacity(STRUCT);
     record.extend(class.to_le_bytes());
     record.extend(id.to_le_bytes());
     for (m, e) in decimals {
@@ -25,6 +26,7 @@ fn write_contaminant(out: &mut [u8], place: u32, class: u32, id: u32, decimals: 
         record.extend(e.to_le_bytes());
         record.extend([0, 0]);
     }
+    record.resize(STRUCT, 0);
     unsafe { gv_write_contaminant(out.as_mut_ptr(), out.len(), place, record.as_ptr(), record.len()) }
 }
 

@@ -3,7 +3,8 @@
    Link libgv.a, which `rt staticlib gv` writes to target/staticlib/. Every function ends, reads and writes only inside
    the bytes that it is lent, and refuses what breaks a rule: there is nothing to set up and nothing to free. What each
    returns and leaves in each byte is proved; docs/FORMAT.md describes the blocks and the refusals. Bytes are lent as a
-   pointer and a length. The structs below have the layout of the block fields on little-endian machines. */
+   pointer and a length. The structs below are bytes 8 to 507 of a block on little-endian machines: their size stays the same
+   when a field is added, which takes the place of unused bytes. The functions at the end take the structs themselves. */
 #ifndef GV_H
 #define GV_H
 
@@ -16,6 +17,7 @@ extern "C" {
 
 enum {
     GV_BLOCK = 512,        /* bytes in a block */
+    GV_STRUCT = 500,       /* bytes in a struct gv_header and in a struct gv_contaminant */
     GV_MOST = 120,         /* contaminants in a site at the most */
     GV_SITE_MOST = 61952,  /* bytes in a site at the most: 121 blocks */
     GV_TEXT_ROOM = 24576,  /* room that gv_list asks for its text */
@@ -53,16 +55,37 @@ struct gv_decimal {
     uint16_t zero;
 };
 
-/* A header: medium 1 soil, 2 water; how many contaminants follow, 1 to 120; the scenario. */
+/* A header: medium 1 soil, 2 water; how many contaminants follow, 1 to 120; the scenario. Every byte of `zero` is 0, as it is
+   where a struct is initialized, = {0} or by names. */
 struct gv_header {
     uint32_t medium, count;
     struct gv_decimal ef, ed, bw, at, ir, ira, pef, et, rf, sa, tr, thi;
+    uint8_t zero[396];
 };
 
 /* A contaminant: class 1 chemical, 2 radionuclide; id from 1 on; toxicity, volatilization, permeability, concentration. */
 struct gv_contaminant {
     uint32_t class_, id;
     struct gv_decimal sfo, sfi, sfx, rfdo, rfdi, vf, pc, c;
+    uint8_t zero[428];
+};
+
+/* A struct that does not have 500 bytes, or has some behind `zero`, is refused when it is compiled: an array of size -1. */
+#define GV_ENDS(type) (sizeof(type) == GV_STRUCT && offsetof(type, zero) + sizeof((type *)0)->zero == GV_STRUCT ? 1 : -1)
+typedef char gv_header_has_its_size[GV_ENDS(struct gv_header)];
+typedef char gv_contaminant_has_its_size[GV_ENDS(struct gv_contaminant)];
+#undef GV_ENDS
+
+/* What a result block holds: risk and hazard by pathway 1, 2, 3 and in total, zero where absent. */
+struct gv_result {
+    uint32_t place, class_, id;
+    struct gv_decimal risk[4], hazard[4];
+};
+
+/* What the summary block holds: lower and upper sum and verdict of each side. */
+struct gv_summary {
+    struct gv_decimal risk_lower, risk_upper, hazard_lower, hazard_upper;
+    uint32_t risk_verdict, hazard_verdict;
 };
 
 /* Writes a header block into the first 512 bytes of out, or returns 10, 4 or 6 and writes nothing.
@@ -92,10 +115,74 @@ uint64_t gv_site(const uint8_t *site, size_t site_len, uint8_t *out, size_t out_
    as it was, if text_len is under GV_TEXT_ROOM. */
 uint64_t gv_list(const uint8_t *site, size_t site_len, uint8_t *out, size_t out_len, uint8_t *text, size_t text_len);
 
+/* The parts of an answer. */
 static inline unsigned gv_refusal(uint64_t answer) { return (unsigned)(answer & 255); }
 static inline unsigned gv_block(uint64_t answer) { return (unsigned)(answer >> 8 & 255); }
 static inline unsigned gv_risk_verdict(uint64_t answer) { return (unsigned)(answer >> 16 & 255); }
 static inline unsigned gv_hazard_verdict(uint64_t answer) { return (unsigned)(answer >> 24 & 255); }
+
+/* ---- the calls above with structs in the place of bytes ---- */
+
+/* gv_write_header of this header. */
+static inline uint32_t gv_put_header(uint8_t *out, size_t out_len, const struct gv_header *header)
+{
+    return gv_write_header(out, out_len, (const uint8_t *)header, sizeof *header);
+}
+
+/* gv_write_contaminant of this contaminant. */
+static inline uint32_t gv_put_contaminant(uint8_t *out, size_t out_len, uint32_t place, const struct gv_contaminant *contaminant)
+{
+    return gv_write_contaminant(out, out_len, place, (const uint8_t *)contaminant, sizeof *contaminant);
+}
+
+/* gv_guideline of this header and this contaminant; the eight guidelines are left in out. */
+static inline uint64_t gv_single(const struct gv_header *header, const struct gv_contaminant *contaminant, struct gv_decimal out[8])
+{
+    return gv_guideline((const uint8_t *)header, sizeof *header, (const uint8_t *)contaminant, sizeof *contaminant, (uint8_t *)out, GV_GUIDELINES);
+}
+
+/* The word, and the decimal, whose bytes begin here. */
+static inline uint32_t gv_read_word(const uint8_t *at)
+{
+    return at[0] | (uint32_t)at[1] << 8 | (uint32_t)at[2] << 16 | (uint32_t)at[3] << 24;
+}
+
+static inline struct gv_decimal gv_read_decimal(const uint8_t *at)
+{
+    struct gv_decimal d = {0, 0, 0};
+    int e = at[4] | at[5] << 8;
+    d.m = gv_read_word(at);
+    d.e = (int16_t)(e < 32768 ? e : e - 65536);
+    return d;
+}
+
+/* What stands in the result block that begins here: block k of the output for the contaminant at place k. */
+static inline struct gv_result gv_read_result(const uint8_t *block)
+{
+    struct gv_result r;
+    int i;
+    r.place = gv_read_word(block + 4);
+    r.class_ = gv_read_word(block + 8);
+    r.id = gv_read_word(block + 12);
+    for (i = 0; i < 4; i++) {
+        r.risk[i] = gv_read_decimal(block + 16 + 8 * i);
+        r.hazard[i] = gv_read_decimal(block + 48 + 8 * i);
+    }
+    return r;
+}
+
+/* What stands in the summary block that begins here: block 0 of the output. */
+static inline struct gv_summary gv_read_summary(const uint8_t *block)
+{
+    struct gv_summary s;
+    s.risk_lower = gv_read_decimal(block + 16);
+    s.risk_upper = gv_read_decimal(block + 24);
+    s.hazard_lower = gv_read_decimal(block + 32);
+    s.hazard_upper = gv_read_decimal(block + 40);
+    s.risk_verdict = gv_read_word(block + 48);
+    s.hazard_verdict = gv_read_word(block + 52);
+    return s;
+}
 
 #ifdef __cplusplus
 }

@@ -17,32 +17,43 @@ from guideline_records import random_case
 from second.blocks import contaminant_block, field_bytes, header_block, write_contaminant, write_header
 from second.decimals import ZERO
 from second.guideline import ACCEPTED, FIELD, ROOM, guideline, refused, scenario_refusal
-from second.terms import SCENARIO_FACTORS
+from second.terms import CONTAMINANT_VALUES, SCENARIO_FACTORS
 from site_frames import filled
 
 GUIDELINE, HEADER, CONTAMINANT, BUILT_IN = range(1, 5)
-HEADER_LENGTH, CONTAMINANT_LENGTH, BLOCK, GUIDELINES = 104, 72, 512, 64
+STRUCT = slice(8, 508)  # a struct of C: a block without kind and place and without its last word
+BLOCK, GUIDELINES = 512, 64
 
 
 def header_struct(case, count):
-    return header_block(case.medium, count, case.scenario)[8:8 + HEADER_LENGTH]
+    return header_block(case.medium, count, case.scenario)[STRUCT]
 
 
 def contaminant_struct(case):
-    return contaminant_block(1, case.record)[8:8 + CONTAMINANT_LENGTH]
+    return contaminant_block(1, case.record)[STRUCT]
 
 
-def with_form(source, given):
-    """The struct and whether it has its form: mostly as it is, at times of another length or with a byte in a gap."""
+def with_form(source, given, fields):
+    """The struct of so many decimals, and whether it has its form: mostly as it is, at times of another length or with an unused
+    byte that is not zero, in a decimal or behind the last one."""
     kind = source.randrange(16)
     if kind == 0:
         return given + b"\0", False
     if kind == 1:
-        return given[:source.randrange(len(given))], False
-    if kind == 2:
-        gap = source.randrange((len(given) - 8) // 8) * 8 + 14 + source.randrange(2)
+        return given[:source.choice((source.randrange(len(given)), 8 + 8 * fields, len(given) - 1))], False
+    if kind in (2, 3):
+        end = 8 + 8 * fields
+        gap = source.randrange(14, end, 8) + source.randrange(2) if kind == 2 else source.choice((end, source.randrange(end, len(given)), len(given) - 1))
         return given[:gap] + b"\1" + given[gap + 1:], False
     return given, True
+
+
+def with_header_form(source, case, count):
+    return with_form(source, header_struct(case, count), len(SCENARIO_FACTORS))
+
+
+def with_contaminant_form(source, case):
+    return with_form(source, contaminant_struct(case), len(CONTAMINANT_VALUES))
 
 
 def guideline_answer(case, header_good, record_good):
@@ -56,8 +67,8 @@ def guideline_answer(case, header_good, record_good):
 
 
 def guideline_call(source, case, room):
-    header, header_good = with_form(source, header_struct(case, source.randrange(200)))
-    record, record_good = with_form(source, contaminant_struct(case))
+    header, header_good = with_header_form(source, case, source.randrange(200))
+    record, record_good = with_contaminant_form(source, case)
     answer = guideline_answer(case, header_good, record_good)
     if answer.refusal == ACCEPTED and room < GUIDELINES:
         answer = refused(ROOM, 0)
@@ -76,14 +87,14 @@ def of_form(good, room, written):
 
 def header_call(source, case, room):
     count = source.choice((1, 120, source.randint(0, 130)))
-    header, good = with_form(source, header_struct(case, count))
+    header, good = with_header_form(source, case, count)
     number, output = of_form(good, room, write_header(filled(room), case.medium, count, case.scenario))
     return (HEADER, 0, 0, 0, header, b""), number, output
 
 
 def contaminant_call(source, case, room):
     place = source.choice((1, 120, source.randint(0, 130)))
-    record, good = with_form(source, contaminant_struct(case))
+    record, good = with_contaminant_form(source, case)
     number, output = of_form(good, room, write_contaminant(filled(room), place, case.record))
     return (CONTAMINANT, place, 0, 0, b"", record), number, output
 

@@ -23,13 +23,24 @@ static struct call next(FILE *f)
     return x;
 }
 
+/* A struct that has its length goes by the function of gv.h that takes structs, which calls the one that takes bytes. */
 static uint64_t made(const struct call *x, uint8_t *out)
 {
+    const struct gv_header *header = x->first_len == GV_STRUCT ? (const void *)x->first : NULL;
+    const struct gv_contaminant *contaminant = x->second_len == GV_STRUCT ? (const void *)x->second : NULL;
     switch (x->which) {
-    case 1: return gv_guideline(x->first, x->first_len, x->second, x->second_len, out, x->out_len);
-    case 2: return gv_write_header(out, x->out_len, x->first, x->first_len);
-    case 3: return gv_write_contaminant(out, x->out_len, x->a, x->second, x->second_len);
-    default: return gv_write_built_in(out, x->out_len, x->a, x->b, x->c);
+    case 1:
+        if (header && contaminant && x->out_len == GV_GUIDELINES)
+            return gv_single(header, contaminant, (void *)out);
+        return gv_guideline(x->first, x->first_len, x->second, x->second_len, out, x->out_len);
+    case 2:
+        return header ? gv_put_header(out, x->out_len, header) : gv_write_header(out, x->out_len, x->first, x->first_len);
+    case 3:
+        if (contaminant)
+            return gv_put_contaminant(out, x->out_len, x->a, contaminant);
+        return gv_write_contaminant(out, x->out_len, x->a, x->second, x->second_len);
+    default:
+        return gv_write_built_in(out, x->out_len, x->a, x->b, x->c);
     }
 }
 

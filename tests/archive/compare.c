@@ -4,6 +4,20 @@
    its length, so that valgrind sees a byte read or written past it; the output is filled before, with guard bytes behind it. */
 #include "compare.h"
 
+/* What gv.h reads out of the summary and the results of an accepted site is what stands there, byte by byte. */
+static int read_right(const uint8_t *out, uint32_t site_len, uint64_t answer)
+{
+    struct gv_summary s = gv_read_summary(out);
+    if (s.risk_verdict != gv_risk_verdict(answer) || s.hazard_verdict != gv_hazard_verdict(answer) || memcmp(&s, out + 16, sizeof s) != 0)
+        return 0;
+    for (uint32_t k = 1; k < site_len / GV_BLOCK; k++) {
+        struct gv_result r = gv_read_result(out + GV_BLOCK * k);
+        if (r.place != k || memcmp(&r, out + GV_BLOCK * k + 4, sizeof r) != 0)
+            return 0;
+    }
+    return 1;
+}
+
 /* The first thing that differs, or null. */
 static const char *differs(const uint8_t *site, uint32_t site_len, uint32_t out_len, uint64_t answer, const uint8_t *left,
                            const uint8_t *text, uint32_t text_len)
@@ -14,6 +28,8 @@ static const char *differs(const uint8_t *site, uint32_t site_len, uint32_t out_
         what = "answer";
     else if (memcmp(out, left, out_len) != 0)
         what = "output";
+    else if (gv_refusal(answer) == GV_ACCEPTED && !read_right(out, site_len, answer))
+        what = "summary or result";
     else if (gv_list(site, site_len, again, out_len, listed, GV_TEXT_ROOM) != text_len || memcmp(listed, text, text_len) != 0)
         what = "listing";
     else if (memcmp(again, left, out_len) != 0)
