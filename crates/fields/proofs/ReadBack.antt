@@ -33,7 +33,15 @@ unfolding fieldBytes
 fieldBytes-append [] y = refl
 fieldBytes-append (d ∷ x) y = ap (λ (t : List ℕ). field d ++ t) (fieldBytes-append x y) ∙ sym (append-assoc (field d) (fieldBytes x) (fieldBytes y))
 
--- four fields, one behind the other
+-- one field, two and four fields, one behind the other
+pub one-field : (d : Decimal) → field d ≡ fieldBytes (d ∷ [])
+unfolding fieldBytes
+one-field d = sym (append-nil (field d))
+
+pub two-fields : (a b : Decimal) → field a ++ field b ≡ fieldBytes (a ∷ (b ∷ []))
+unfolding fieldBytes
+two-fields a b = simp append-nil
+
 pub four-fields : (a b c d : Decimal) → field a ++ field b ++ field c ++ field d ≡ fieldBytes (a ∷ (b ∷ (c ∷ (d ∷ []))))
 unfolding fieldBytes
 four-fields a b c d = simp (append-assoc, append-nil)

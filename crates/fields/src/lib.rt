@@ -72,7 +72,15 @@ pub fn put(out: &mut [u8], at: usize, d: Decimal)
     words::put(out, at + 4, code(d.e));
 }
 
-// Writes the fields of four decimals, from `at` on.
+// Writes the fields of two decimals, and of four, from `at` on.
+pub fn put_two(out: &mut [u8], at: usize, a: Decimal, b: Decimal)
+    requires { ⌜ at + 16 ≤ length (now out) ⌝ }
+    ensures { λ _. ⌜ now (out .exit) ≡ placed (now (out .entry)) at (fieldBytes (a ∷ (b ∷ []))) ⌝ }
+{
+    put(out, at, a);
+    put(out, at + 8, b);
+}
+
 pub fn put_four(out: &mut [u8], at: usize, a: Decimal, b: Decimal, c: Decimal, d: Decimal)
     requires { ⌜ at + 32 ≤ length (now out) ⌝ }
     ensures { λ _. ⌜ now (out .exit) ≡ placed (now (out .entry)) at (fieldBytes (a ∷ (b ∷ (c ∷ (d ∷ []))))) ⌝ }

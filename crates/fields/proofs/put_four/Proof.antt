@@ -36,14 +36,19 @@ same-length c = search needs
 
 returns : tie.Need-returns
 returns c =
-    let x = c .before .before .before .before .before .before .before .before .before .before .before .before .before .before .before .before .before .args in
+    let c₄ = c .before .before in
+    let c₃ = c₄ .before .before .before .before in
+    let c₂ = c₃ .before .before .before .before in
+    let c₁ = c₂ .before .before .before .before in
+    let start = c₁ .before .before .before in
+    let x = start .args in
     let l = x .out .now in
     let at = x .at in
-    let fit = c .before .before .before .before .before .before .before .before .before .before .before .before .before .before .before .before .before .pre in
-    let one : Placed (c .before .before .before .before .before .before .before .before .before .before .before .before .before .before .put .last .0) l (field (x .a)) at (at + 8) = record { now = c .before .before .before .before .before .before .before .before .before .before .before .before .before .before .put .ensures; end = simp field-length; room = omega arith } in
-    let two = placed-next (c .before .before .before .before .before .before .before .before .before .before .put2 .last .0) (field (x .b)) (at + 16) one (c .before .before .before .before .before .before .before .before .before .before .put2 .ensures) (omega (arith, field-length (x .b))) in
-    let three = placed-next (c .before .before .before .before .before .before .put3 .last .0) (field (x .c)) (at + 24) two (c .before .before .before .before .before .before .put3 .ensures) (omega (arith, field-length (x .c))) in
-    let all = placed-next (c .before .before .put4 .last .0) (field (x .d)) (at + 32) three (c .before .before .put4 .ensures) (omega (arith, field-length (x .d))) in
+    let fit = start .pre in
+    let one : Placed (c₁ .put .last .0) l (field (x .a)) at (at + 8) = record { now = c₁ .put .ensures; end = simp field-length; room = omega arith } in
+    let two = placed-next (c₂ .put2 .last .0) (field (x .b)) (at + 16) one (c₂ .put2 .ensures) (omega (arith, field-length (x .b))) in
+    let three = placed-next (c₃ .put3 .last .0) (field (x .c)) (at + 24) two (c₃ .put3 .ensures) (omega (arith, field-length (x .c))) in
+    let all = placed-next (c₄ .put4 .last .0) (field (x .d)) (at + 32) three (c₄ .put4 .ensures) (omega (arith, field-length (x .d))) in
     all .now ∙ ap (placed l at) (four-fields (x .a) (x .b) (x .c) (x .d))
 
 pub put-four-spec : {M : Type 1} → statement M
