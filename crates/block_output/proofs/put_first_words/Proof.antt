@@ -26,12 +26,15 @@ same-length c = search needs
 returns : tie.Need-returns
 unfolding firstWords
 returns c =
-    let x = c .before .before .before .before .before .before .before .before .before .before .before .before .before .before .before .before .before .args in
-    let l = x .out .now in
-    let one : Placed (c .before .before .before .before .before .before .before .before .before .before .before .before .before .before .put .last .0) l (le4 (x .kind)) 0 4 = record { now = c .before .before .before .before .before .before .before .before .before .before .before .before .before .before .put .ensures; end = omega (arith, le4-length (x .kind)); room = omega arith } in
-    let two = placed-next (c .before .before .before .before .before .before .before .before .before .before .put2 .last .0) (le4 (x .place)) 8 one (c .before .before .before .before .before .before .before .before .before .before .put2 .ensures) (omega (arith, le4-length (x .place))) in
-    let three = placed-next (c .before .before .before .before .before .before .put3 .last .0) (le4 (x .a)) 12 two (c .before .before .before .before .before .before .put3 .ensures) (omega (arith, le4-length (x .a))) in
-    placed-next (c .before .before .put4 .last .0) (le4 (x .b)) 16 three (c .before .before .put4 .ensures) (omega (arith, le4-length (x .b))) .now
+    let c₄ = c .before .before in
+    let c₃ = c₄ .before .before .before .before in
+    let c₂ = c₃ .before .before .before .before in
+    let c₁ = c₂ .before .before .before .before in
+    let x = c₁ .before .before .before .args in
+    let one : Placed (c₁ .put .last .0) (x .out .now) (le4 (x .kind)) 0 4 = record { now = c₁ .put .ensures; end = omega (arith, le4-length (x .kind)); room = omega arith } in
+    let two = placed-next (c₂ .put2 .last .0) (le4 (x .place)) 8 one (c₂ .put2 .ensures) (omega (arith, le4-length (x .place))) in
+    let three = placed-next (c₃ .put3 .last .0) (le4 (x .a)) 12 two (c₃ .put3 .ensures) (omega (arith, le4-length (x .a))) in
+    placed-next (c₄ .put4 .last .0) (le4 (x .b)) 16 three (c₄ .put4 .ensures) (omega (arith, le4-length (x .b))) .now
 
 pub put-first-words-spec : {M : Type 1} → statement M
 put-first-words-spec =

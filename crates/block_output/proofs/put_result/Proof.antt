@@ -2,12 +2,13 @@
 use mathlib.Core.Path.{refl}
 use mathlib.Core.List.{List, [], _∷_}
 use Prim.Native.Nat.{ℕ}
-use lib.ListN.{replicate, length-replicate}
+use lib.ListN.{length-replicate}
 use Rattle.words.proofs.Written.{wrote-none, wrote-next}
 use Rattle.fields.specs.Fields.{fieldBytes}
 use Rattle.fields.proofs.ReadBack.{fieldBytes-length}
 use Rattle.decimal.specs.declared.Decimal.{Decimal}
-use Rattle.block_rules.specs.Layouts.{firstWords, bodyOf, guidelineDecimals, resultBlock}
+use Rattle.block_rules.specs.Pieces.{resultPieces, unusedBytes}
+use Rattle.block_rules.specs.Layouts.{firstWords, bodyOf, unusedOf, guidelineDecimals, resultBlock}
 use Rattle.block_rules.proofs.Lengths.{firstWords-length}
 use Rattle.block_output.proofs.Blocks.{wrote-fields, wrote-block}
 use borrow.Author.Needs.{needs}
@@ -46,11 +47,12 @@ returns c =
     let first = firstWords 3 (v .place) (v .class) (v .id) in
     let x : List Decimal = r .first ∷ (r .second ∷ (r .third ∷ (r .total ∷ []))) in
     let y : List Decimal = h .first ∷ (h .second ∷ (h .third ∷ (h .total ∷ []))) in
+    let gap = unusedOf resultPieces in
     let w₁ = wrote-next (c₁ .put-first-words .last .0) first 16 (wrote-none (v .out .now)) (c₁ .put-first-words .ensures) (firstWords-length 3 (v .place) (v .class) (v .id)) in
     let w₂ = wrote-next (c₂ .put-four .last .0) (fieldBytes x) 32 w₁ (c₂ .put-four .ensures) (fieldBytes-length x) in
     let w₃ = wrote-fields first x y 32 (c₃ .put-four2 .last .0) w₂ (c₃ .put-four2 .ensures) refl in
-    let w₄ = wrote-next (c₄ .clear .last .0) (replicate 428 0) 428 w₃ (c₄ .clear .ensures) (length-replicate {A = ℕ} 428 0) in
-    wrote-block 3 (v .place) (v .class) (v .id) (guidelineDecimals r h) (replicate 428 0) (c₅ .put-last-word .last .0) w₄ (c₅ .put-last-word .ensures)
+    let w₄ = wrote-next (c₄ .clear .last .0) gap _ w₃ (c₄ .clear .ensures) (length-replicate {A = ℕ} (unusedBytes resultPieces) 0) in
+    wrote-block 3 (v .place) (v .class) (v .id) (guidelineDecimals r h) gap (c₅ .put-last-word .last .0) w₄ (c₅ .put-last-word .ensures)
 
 pub put-result-spec : {M : Type 1} → statement M
 put-result-spec =

@@ -2,7 +2,7 @@
 use mathlib.Core.Path.{_≡_, sym, ap, _∙_}
 use mathlib.Core.List.{List, _++_, append-assoc}
 use Prim.Native.Nat.{ℕ, _+_}
-use lib.ListN.{length, replicate, length-replicate}
+use lib.ListN.{length, length-replicate}
 use Rattle.words.specs.Bytes.{le4, placed, over}
 use Rattle.words.proofs.Words.{le4-length}
 use Rattle.words.proofs.Written.{Wrote, wrote-none, wrote-next}
@@ -10,7 +10,8 @@ use Rattle.fields.specs.Fields.{fieldBytes}
 use Rattle.fields.proofs.ReadBack.{fieldBytes-length}
 use Rattle.decimal.specs.declared.Decimal.{Decimal}
 use Rattle.sum_rules.specs.Verdict.{verdictNumber}
-use Rattle.block_rules.specs.Layouts.{firstWords, bodyOf, summaryBlock, summaryDecimals}
+use Rattle.block_rules.specs.Pieces.{summaryPieces, unusedBytes}
+use Rattle.block_rules.specs.Layouts.{firstWords, bodyOf, unusedOf, summaryBlock, summaryDecimals}
 use Rattle.block_rules.proofs.Lengths.{firstWords-length}
 use Rattle.block_output.proofs.Blocks.{wrote-block}
 use borrow.Author.Needs.{needs}
@@ -64,14 +65,16 @@ returns c =
     let v = le4 (verdictNumber (h .verdict)) in
     let first = firstWords 4 0 0 0 in
     let x : List Decimal = summaryDecimals r h in
+    let gap = unusedOf summaryPieces in
+    let body = bodyOf 4 0 0 0 x (u ++ (v ++ gap)) in
     let w₁ = wrote-next (c₁ .put-first-words .last .0) first 16 (wrote-none d) (c₁ .put-first-words .ensures) (firstWords-length 4 0 0 0) in
-    let w₂ = wrote-next (c₂ .put-four .last .0) (fieldBytes x) 32 w₁ (c₂ .put-four .ensures) (fieldBytes-length x) in
+    let w₂ = wrote-next (c₂ .put-four .last .0) (fieldBytes x) _ w₁ (c₂ .put-four .ensures) (fieldBytes-length x) in
     let w₃ = wrote-word (verdictNumber (r .verdict)) (c₃ .put .last .0) w₂ (c₃ .put .ensures) (c₃ .before .verdict-number .ensures) in
     let w₄ = wrote-word (verdictNumber (h .verdict)) (c₄ .put2 .last .0) w₃ (c₄ .put2 .ensures) (c₄ .before .verdict-number2 .ensures) in
-    let w₅ = wrote-next (c₅ .clear .last .0) (replicate 452 0) 452 w₄ (c₅ .clear .ensures) (length-replicate {A = ℕ} 452 0) in
-    let e : first ++ fieldBytes x ++ u ++ v ++ replicate 452 0 ≡ bodyOf 4 0 0 0 x (u ++ (v ++ replicate 452 0)) = append-assoc (first ++ fieldBytes x ++ u) v (replicate 452 0) ∙ append-assoc (first ++ fieldBytes x) u (v ++ replicate 452 0) in
-    let w : Wrote (c₅ .clear .last .0) (bodyOf 4 0 0 0 x (u ++ (v ++ replicate 452 0))) d 508 = record { now = w₅ .now ∙ ap (λ (l : List ℕ). over l d) e; long = ap length (sym e) ∙ w₅ .long } in
-    wrote-block 4 0 0 0 x (u ++ (v ++ replicate 452 0)) (c₆ .put-last-word .last .0) w (c₆ .put-last-word .ensures)
+    let w₅ = wrote-next (c₅ .clear .last .0) gap _ w₄ (c₅ .clear .ensures) (length-replicate {A = ℕ} (unusedBytes summaryPieces) 0) in
+    let e : first ++ fieldBytes x ++ u ++ v ++ gap ≡ body = append-assoc (first ++ fieldBytes x ++ u) v gap ∙ append-assoc (first ++ fieldBytes x) u (v ++ gap) in
+    let w : Wrote (c₅ .clear .last .0) body d 508 = record { now = w₅ .now ∙ ap (λ (l : List ℕ). over l d) e; long = ap length (sym e) ∙ w₅ .long } in
+    wrote-block 4 0 0 0 x (u ++ (v ++ gap)) (c₆ .put-last-word .last .0) w (c₆ .put-last-word .ensures)
 
 pub put-summary-spec : {M : Type 1} → statement M
 put-summary-spec =
