@@ -8,6 +8,7 @@ use lib.ListN.{length, getD}
 use Rattle.decimal.specs.Decimal.{zeroOf}
 use Rattle.outcome.specs.Outcome.{numberOf}
 use Rattle.inputs.specs.declared.Scenario.{Scenario}
+use Rattle.inputs.specs.Inputs.{contaminantOf}
 use Rattle.words.proofs.Words.{word-most}
 use Rattle.words.proofs.Parts.{word-part}
 use Rattle.fields.specs.Fields.{decimalsAt}
@@ -48,7 +49,7 @@ module _ (site out : List ℕ) (z : numberOf (siteAnswer site (length out) .refu
   passed = passed-site site (length out) z
 
   id-word : (k : ℕ) → recordAt site k .id < 4294967296
-  unfolding recordAt contaminantAt blockAt
+  unfolding recordAt contaminantAt contaminantOf blockAt
   id-word k = omega (arith, word-part site (512 * k) 512 12 (omega arith), word-most site byte (512 * k + 12))
 
   module _ (k : ℕ) (first : 1 ≤ k) (last : k ≤ headerOf site .count) where

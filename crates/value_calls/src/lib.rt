@@ -68,9 +68,12 @@ pub fn run_built_in(number: u32) {
     let s = b.scenario;
     print_next(outcome::number(refusal));
     print_next(b.block);
-    print_four(s.ef, s.ed, s.bw, s.at);
-    print_four(s.ir, s.ira, s.pef, s.et);
-    print_four(s.rf, s.sa, s.tr, s.thi);
+    let x = s.exposure;
+    let c = s.contact;
+    let t = s.targets;
+    print_four(x.ef, x.ed, x.bw, x.at);
+    print_four(c.ir, c.ira, c.pef, c.et);
+    print_four(c.rf, c.sa, t.tr, t.thi);
 }
 
 // Down for an even choice, up for an odd one.
@@ -96,8 +99,9 @@ fn operate(choice: u32, a: Decimal, b: Decimal) -> Decimal {
 // second.
 pub fn run_decimals(choice: u32) {
     let r = read_contaminant();
-    let a = r.sfo;
-    let b = r.sfi;
+    let t = r.toxicity;
+    let a = t.sfo;
+    let b = t.sfi;
     if choice < 7 {
         print_pair(operate(choice, a, b));
     } else {
