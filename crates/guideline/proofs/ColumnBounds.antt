@@ -3,7 +3,7 @@ use mathlib.Core.Path.{_≡_, refl, sym, ap, subst, _∙_}
 use mathlib.Core.Bool.{true, not}
 use mathlib.Core.Logic.{inl, inr}
 use mathlib.Core.List.{List, [], _∷_, map}
-use Prim.Native.Nat.{ℕ, _≤_}
+use Prim.Native.Nat.{ℕ, _+_, _≤_}
 use native.Mathlib.Omega.{arith}
 use lib.Dec.{eqb, lit≤}
 use lib.ListN.{length, getD}
@@ -20,6 +20,7 @@ use Rattle.decimal.proofs.Laws.{decimal-zero, decimal-nine}
 use Rattle.terms.specs.declared.pathways.PathwayTerms.{PathwayTerms}
 use Rattle.formulas.specs.Formula.{Formula, none}
 use Rattle.formulas.specs.Term.{termOf, totalOf}
+use Rattle.inputs.specs.Limits.{inputWidth, formulaWidth}
 use Rattle.factors.specs.Stands.{Stands}
 use Rattle.terms.specs.Side.{Wide, WideSide, TotalSize}
 use Rattle.decimal.proofs.Value.{skip-first, skip-next, Inside, value-inside}
@@ -27,9 +28,9 @@ use Rattle.factors.proofs.StandsLaws.{stands-value, stands-is, stands-add, stan
 use Rattle.formulas.proofs.Sound.{three-places}
 use Rattle.guideline.specs.declared.Column.{Column}
 use Rattle.guideline.specs.Column.{ColumnFor, rangedOf, columnRanged, PrintableColumn, columnDecimals}
-use Rattle.guideline_rules.specs.Guideline.{sideOf, sideDecimals, allRanged}
+use Rattle.guideline_rules.specs.Guideline.{sideOf}
 
-pub stands-wide : {w : ℕ} {r : Number} {d : Decimal} → w ≤ 600 → Stands w r d → Wide r
+pub stands-wide : {w : ℕ} {r : Number} {d : Decimal} → w ≤ formulaWidth → Stands w r d → Wide r
 stands-wide h s = record { most = s .most; low = omega (arith, s .low); high = omega (arith, s .high) }
 
 pub stands-printable : {w : ℕ} {r : Number} {d : Decimal} → w ≤ 990 → Stands w r d → Printable r
@@ -57,9 +58,9 @@ stands-zero {w} {r} {d} s = cases (s .working)
 
 -- ---- the terms of a side over any values, in a direction
 pub record SideStands (dir : Direction) (vs : List Decimal) (fs : List Formula) (t : PathwayTerms) : Type 0 where
-  pub first : Stands 600 (t .first) (termOf vs dir (getD fs 0 none))
-  pub second : Stands 600 (t .second) (termOf vs dir (getD fs 1 none))
-  pub third : Stands 600 (t .third) (termOf vs dir (getD fs 2 none))
+  pub first : Stands formulaWidth (t .first) (termOf vs dir (getD fs 0 none))
+  pub second : Stands formulaWidth (t .second) (termOf vs dir (getD fs 1 none))
+  pub third : Stands formulaWidth (t .third) (termOf vs dir (getD fs 2 none))
 
 pub side-wide : {dir : Direction} {vs : List Decimal} {fs : List Formula} {t : PathwayTerms} → SideStands dir vs fs t → WideSide t
 side-wide s = record { first = stands-wide (lit≤ tt) (s .first); second = stands-wide (lit≤ tt) (s .second); third = stands-wide (lit≤ tt) (s .third) }
@@ -75,7 +76,7 @@ module _ (dir : Direction) (vs : List Decimal) (fs : List Formula) (t : PathwayT
   c : Decimal
   c = termOf vs dir (getD fs 2 none)
 
-  two : Stands 601 (sumOf dir (t .first) (t .second)) (addOf a b dir)
+  two : Stands (formulaWidth + 1) (sumOf dir (t .first) (t .second)) (addOf a b dir)
   unfolding a b
   two = stands-add dir (s .first) (s .second) (lit≤ tt) (lit≤ tt) refl
 
@@ -88,22 +89,22 @@ module _ (dir : Direction) (vs : List Decimal) (fs : List Formula) (t : PathwayT
       ap (λ (d : Decimal). summed dir d (c ∷ [])) (skip-next dir (stands-value (lit≤ tt) (s .first)) (stands-value (lit≤ tt) (s .second))) ∙
       skip-next dir (stands-value (lit≤ tt) two) (stands-value (lit≤ tt) (s .third))
 
-  pub sum-stands : Stands 602 (sumOf dir (sumOf dir (t .first) (t .second)) (t .third)) (totalOf vs dir fs)
+  pub sum-stands : Stands (formulaWidth + 2) (sumOf dir (sumOf dir (t .first) (t .second)) (t .third)) (totalOf vs dir fs)
   unfolding c
   sum-stands = stands-is (sym total-is) (stands-add dir two (s .third) (lit≤ tt) (lit≤ tt) refl)
 
 -- ---- the column of a side
 pub record ColumnStands (vs : List Decimal) (target : Decimal) (fs : List Formula) (c : Column) : Type 0 where
-  pub sum : Stands 602 (c .sum) (totalOf vs Up fs)
-  pub first : Stands 629 (c .first) (divOf target (termOf vs Up (getD fs 0 none)) Down)
-  pub second : Stands 629 (c .second) (divOf target (termOf vs Up (getD fs 1 none)) Down)
-  pub third : Stands 629 (c .third) (divOf target (termOf vs Up (getD fs 2 none)) Down)
-  pub total : Stands 631 (c .total) (divOf target (totalOf vs Up fs) Down)
+  pub sum : Stands (formulaWidth + 2) (c .sum) (totalOf vs Up fs)
+  pub first : Stands (formulaWidth + inputWidth + 1) (c .first) (divOf target (termOf vs Up (getD fs 0 none)) Down)
+  pub second : Stands (formulaWidth + inputWidth + 1) (c .second) (divOf target (termOf vs Up (getD fs 1 none)) Down)
+  pub third : Stands (formulaWidth + inputWidth + 1) (c .third) (divOf target (termOf vs Up (getD fs 2 none)) Down)
+  pub total : Stands (formulaWidth + 2 + inputWidth + 1) (c .total) (divOf target (totalOf vs Up fs) Down)
 
 pub column-stands : (vs : List Decimal) (fs : List Formula) (t : PathwayTerms) → length fs ≡ 3 → SideStands Up vs fs t →
-    (n : Number) (target : Decimal) (k : Column) → Stands 28 n target → ColumnFor n t k → ColumnStands vs target fs k
+    (n : Number) (target : Decimal) (k : Column) → Stands inputWidth n target → ColumnFor n t k → ColumnStands vs target fs k
 column-stands vs fs t h s n target k g e =
-    let u = subst (λ (r : Number). Stands 602 r (totalOf vs Up fs)) (sym (e .sum)) (sum-stands Up vs fs t h s) in
+    let u = subst (λ (r : Number). Stands (formulaWidth + 2) r (totalOf vs Up fs)) (sym (e .sum)) (sum-stands Up vs fs t h s) in
     record {
       sum = u;
       first = stands-div Down g (s .first) (lit≤ tt) (e .first);
@@ -125,21 +126,6 @@ module _ {vs : List Decimal} {target : Decimal} {fs : List Formula} {t : Pathway
         stands-ranged (lit≤ tt) (h .third),
         stands-ranged (lit≤ tt) (h .total),
         stands-ranged (lit≤ tt) (h .sum),
-      )
-
-  -- refusal 9 does not occur on this side
-  pub side-ranged : allRanged (sideDecimals vs target fs) ≡ true
-  unfolding sideOf
-  side-ranged =
-      rw (
-        stands-inside (lit≤ tt) (s .first) .inside,
-        stands-inside (lit≤ tt) (s .second) .inside,
-        stands-inside (lit≤ tt) (s .third) .inside,
-        stands-inside (lit≤ tt) (h .sum) .inside,
-        stands-inside (lit≤ tt) (h .first) .inside,
-        stands-inside (lit≤ tt) (h .second) .inside,
-        stands-inside (lit≤ tt) (h .third) .inside,
-        stands-inside (lit≤ tt) (h .total) .inside,
       )
 
 pub column-printable : {vs : List Decimal} {target : Decimal} {fs : List Formula} {k : Column} → ColumnStands vs target fs k → PrintableColumn k

@@ -1,14 +1,13 @@
 -- The steps of the single guideline's code, and what their results stand for. Assumes nothing.
-use mathlib.Core.Path.{_≡_, sym, ap, subst, _∙_}
-use mathlib.Core.Bool.{true, false, not, _&&_}
+use mathlib.Core.Path.{_≡_, sym, subst, _∙_}
+use mathlib.Core.Bool.{true, _&&_}
 use mathlib.Core.List.{List}
 use Prim.Native.Nat.{ℕ}
-use lib.Dec.{eqb, lit<, lit≤}
+use lib.Dec.{lit≤}
 use lib.ListN.{length}
 use Rattle.rounding.specs.declared.Direction.{Direction}
 use Rattle.rounding.specs.declared.Direction.the-variants.{Up}
 use Rattle.decimal.specs.declared.Decimal.{Decimal}
-use Rattle.outcome.specs.declared.Refusal.the-variants.{Pathway}
 use Rattle.inputs.specs.declared.Scenario.{Scenario}
 use Rattle.inputs.specs.declared.Contaminant.{Contaminant}
 use Rattle.factors.specs.declared.numbers.Factors.{Factors}
@@ -16,20 +15,22 @@ use Rattle.factors.specs.declared.numbers.ContaminantNumbers.{ContaminantNumber
 use Rattle.factors.specs.declared.prepared.Prepared.{Prepared}
 use Rattle.terms.specs.declared.pathways.PathwayTerms.{PathwayTerms}
 use Rattle.terms.specs.declared.pathways.Terms.{Terms}
-use Rattle.formulas.specs.Formula.{Formula, TR, THI, pathwaysOf, derived}
-use Rattle.formulas.specs.Term.{look, inputsOf, valuesOf}
+use Rattle.inputs.specs.Limits.{inputWidth}
+use Rattle.formulas.specs.Side.{Risk, Hazard}
+use Rattle.formulas.specs.Formula.{Formula, TR, THI, derived}
+use Rattle.formulas.specs.Term.{look, valuesOf, formulasFor, valuesFor}
 use Rattle.factors.specs.Stands.{Stands, FactorsFor, NumbersFor}
 use Rattle.factors.specs.Prepared.{PreparedFor}
 use Rattle.terms.specs.Side.{numberValues, SideFor, TermsFor, Wide, WideSide}
-use Rattle.formulas.proofs.Sound.{table-sound, three-pathways}
+use Rattle.formulas.proofs.Sound.{three-pathways}
 use Rattle.factors.proofs.StandsLaws.{risk-target, hazard-target}
 use Rattle.terms.proofs.SameValues.{values-same}
 use Rattle.guideline.specs.declared.Column.{Column}
 use Rattle.guideline.specs.Column.{ColumnFor, columnRanged, columnDecimals}
-use Rattle.guideline_rules.proofs.Accepted.{Accepted, values-of}
-use Rattle.guideline_rules.specs.Guideline.{anyPathway, refused, accepted, workedOut}
-use Rattle.guideline.proofs.ColumnBounds.{SideStands, ColumnStands, stands-wide, side-wide, stands-zero, column-stands, column-ranged, side-ranged, column-is}
-use Rattle.guideline_rules.proofs.WorkedOut.{any-total, worked-none, worked-accepted}
+use Rattle.guideline_rules.proofs.Accepted.{Accepted}
+use Rattle.guideline_rules.specs.Guideline.{accepted, workedOut}
+use Rattle.guideline.proofs.ColumnBounds.{SideStands, ColumnStands, stands-wide, side-wide, column-stands, column-ranged, column-is}
+use Rattle.guideline_rules.proofs.Promises.{worked}
 
 -- ---- the terms over the values of the definitions
 pub sides : {dir : Direction} {f : Factors} {t : ContaminantNumbers} {fs : List Formula} {k : PathwayTerms} {vs : List Decimal} →
@@ -44,13 +45,13 @@ pub record Terms-of (s : Scenario) (medium : ℕ) (r : Contaminant) (f : Factors
   pub terms : TermsFor Up (p .factors) t medium (r .class) k
 
 module _ {s : Scenario} {medium : ℕ} {r : Contaminant} {f : Factors} {p : Prepared} {t : ContaminantNumbers} {k : Terms} (h : Terms-of s medium r f p t k) where
-  same : numberValues Up (p .factors) t ≡ valuesOf Up (inputsOf s r)
+  same : numberValues Up (p .factors) t ≡ valuesFor Up s r
   same = values-same Up s r (h .factors) (h .prepared) (h .numbers)
 
-  pub risk-terms : SideStands Up (valuesOf Up (inputsOf s r)) (pathwaysOf medium (r .class) 0) (k .risk)
+  pub risk-terms : SideStands Up (valuesFor Up s r) (formulasFor s medium r Risk) (k .risk)
   risk-terms = sides same (h .terms .risk)
 
-  pub hazard-terms : SideStands Up (valuesOf Up (inputsOf s r)) (pathwaysOf medium (r .class) 1) (k .hazard)
+  pub hazard-terms : SideStands Up (valuesFor Up s r) (formulasFor s medium r Hazard) (k .hazard)
   hazard-terms = sides same (h .terms .hazard)
 
   pub wide : (Wide (f .targets .tr) × WideSide (k .risk)) × (Wide (f .targets .thi) × WideSide (k .hazard))
@@ -67,47 +68,32 @@ pub record Columns-of (s : Scenario) (medium : ℕ) (r : Contaminant) (f : Facto
 
 module _ {s : Scenario} {medium : ℕ} {r : Contaminant} {f : Factors} {p : Prepared} {t : ContaminantNumbers} {k : Terms} {x y : Column} (h : Columns-of s medium r f p t k x y) where
   abbrev vs : List Decimal
-  vs = valuesOf Up (inputsOf s r)
+  vs = valuesFor Up s r
 
-  a : Accepted s medium r
-  a = h .terms .inputs
+  risk-three : length (formulasFor s medium r Risk) ≡ 3
+  risk-three = three-pathways medium (r .class) Risk
 
-  risk-three : length (pathwaysOf medium (r .class) 0) ≡ 3
-  risk-three = three-pathways medium (r .class) 0 (a .media) (a .class) (lit< tt)
+  hazard-three : length (formulasFor s medium r Hazard) ≡ 3
+  hazard-three = three-pathways medium (r .class) Hazard
 
-  hazard-three : length (pathwaysOf medium (r .class) 1) ≡ 3
-  hazard-three = three-pathways medium (r .class) 1 (a .media) (a .class) (lit< tt)
-
-  risk-stands : Stands 28 (f .targets .tr) (look vs TR)
+  risk-stands : Stands inputWidth (f .targets .tr) (look vs TR)
   unfolding valuesOf derived
   risk-stands = risk-target s f (h .terms .factors)
 
-  hazard-stands : Stands 28 (f .targets .thi) (look vs THI)
+  hazard-stands : Stands inputWidth (f .targets .thi) (look vs THI)
   unfolding valuesOf derived
   hazard-stands = hazard-target s f (h .terms .factors)
 
-  pub risk-column : ColumnStands vs (look vs TR) (pathwaysOf medium (r .class) 0) x
-  risk-column = column-stands vs (pathwaysOf medium (r .class) 0) (k .risk) risk-three (risk-terms (h .terms)) (f .targets .tr) (look vs TR) x risk-stands (h .risk)
+  pub risk-column : ColumnStands vs (look vs TR) (formulasFor s medium r Risk) x
+  risk-column =
+      column-stands vs (formulasFor s medium r Risk) (k .risk) risk-three (risk-terms (h .terms)) (f .targets .tr) (look vs TR) x risk-stands (h .risk)
 
-  pub hazard-column : ColumnStands vs (look vs THI) (pathwaysOf medium (r .class) 1) y
-  hazard-column = column-stands vs (pathwaysOf medium (r .class) 1) (k .hazard) hazard-three (hazard-terms (h .terms)) (f .targets .thi) (look vs THI) y hazard-stands (h .hazard)
-
-  pub any-risk : not (eqb (x .sum .m) 0) ≡ anyPathway vs (pathwaysOf medium (r .class) 0)
-  any-risk = ap not (stands-zero (risk-column .sum)) ∙ any-total vs _ (values-of Up s medium r a) (pathwaysOf medium (r .class) 0) (table-sound medium (r .class) 0) risk-three
-
-  pub any-hazard : not (eqb (y .sum .m) 0) ≡ anyPathway vs (pathwaysOf medium (r .class) 1)
-  any-hazard = ap not (stands-zero (hazard-column .sum)) ∙ any-total vs _ (values-of Up s medium r a) (pathwaysOf medium (r .class) 1) (table-sound medium (r .class) 1) hazard-three
-
-  -- the three ways out
-  pub none-out : eqb (x .sum .m) 0 && eqb (y .sum .m) 0 ≡ true → workedOut vs (pathwaysOf medium (r .class) 0) (pathwaysOf medium (r .class) 1) ≡ refused Pathway 1
-  none-out = worked-none vs _ _ (eqb (x .sum .m) 0) (eqb (y .sum .m) 0) any-risk any-hazard
+  pub hazard-column : ColumnStands vs (look vs THI) (formulasFor s medium r Hazard) y
+  hazard-column =
+      column-stands vs (formulasFor s medium r Hazard) (k .hazard) hazard-three (hazard-terms (h .terms)) (f .targets .thi) (look vs THI) y hazard-stands (h .hazard)
 
   pub in-range : columnRanged (k .risk) x && columnRanged (k .hazard) y ≡ true
   in-range = rw (column-ranged (risk-terms (h .terms)) risk-column, column-ranged (hazard-terms (h .terms)) hazard-column)
 
-  pub accepted-out : eqb (x .sum .m) 0 && eqb (y .sum .m) 0 ≡ false →
-      workedOut vs (pathwaysOf medium (r .class) 0) (pathwaysOf medium (r .class) 1) ≡ accepted (columnDecimals x) (columnDecimals y)
-  accepted-out e =
-      worked-accepted vs _ _ (eqb (x .sum .m) 0) (eqb (y .sum .m) 0) any-risk any-hazard e
-      (side-ranged (risk-terms (h .terms)) risk-column) (side-ranged (hazard-terms (h .terms)) hazard-column) ∙
-      sym (rw (column-is risk-column, column-is hazard-column))
+  pub accepted-out : workedOut s medium r ≡ accepted (columnDecimals x) (columnDecimals y)
+  accepted-out = worked s medium r (h .terms .inputs) ∙ sym (rw (column-is risk-column, column-is hazard-column))

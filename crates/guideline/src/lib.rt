@@ -6,21 +6,20 @@ use inputs::Contaminant;
 use inputs::Scenario;
 use inputs::both;
 use inputs::contaminant_fits;
-use inputs::lacks_factor;
-use inputs::scenario_fits;
+use inputs::scenario_refusal;
 use outcome::Refusal;
+use outcome::accepted;
+use presence::record_refusal;
 use rounding::BIAS;
 use rounding::Direction;
 use rounding::Number;
 use terms::pathways::PathwayTerms;
 use terms::pathways::Terms;
 ghost use mathlib.Core.Path.{_≡_};
-ghost use Rattle.rounding.specs.declared.Direction.the-variants.{Down, Up};
+ghost use Rattle.rounding.specs.declared.Direction.the-variants.{Down};
 ghost use Rattle.rounding.specs.Number.{InRange};
 ghost use Rattle.rounding.specs.Operations.{quotientOf};
 ghost use Rattle.terms.specs.Side.{Wide, WideSide};
-ghost use Rattle.formulas.specs.Formula.{pathwaysOf};
-ghost use Rattle.formulas.specs.Term.{inputsOf, valuesOf};
 ghost use Rattle.guideline.specs.Column.{ColumnFor, rangedOf, columnRanged, PrintableColumn, columnDecimals};
 ghost use Rattle.guideline_rules.proofs.Accepted.{Accepted};
 ghost use Rattle.guideline_rules.specs.Guideline.{zeroSide, refused as refusedOf, workedOut, guidelineOf};
@@ -138,7 +137,7 @@ pub fn refused(refusal: Refusal, block: u32) -> GuidelineAnswer
 // The answer for inputs that keep their rules.
 fn worked_out(s: Scenario, medium: u32, r: Contaminant) -> GuidelineAnswer
     requires { ⌜ Accepted s medium r ⌝ }
-    ensures { λ g. ⌜ g ≡ workedOut (valuesOf Up (inputsOf s r)) (pathwaysOf medium (r .class) 0) (pathwaysOf medium (r .class) 1) ⌝ }
+    ensures { λ g. ⌜ g ≡ workedOut s medium r ⌝ }
 {
     let f = factors::numbers::scenario_numbers(s);
     let p = factors::prepared::prepare(f, Direction::Up);
@@ -147,9 +146,6 @@ fn worked_out(s: Scenario, medium: u32, r: Contaminant) -> GuidelineAnswer
     let columns = columns_of(f.targets.tr, f.targets.thi, side);
     let risk = columns.risk;
     let hazard = columns.hazard;
-    if both(risk.sum.m == 0, hazard.sum.m == 0) {
-        return refused(Refusal::Pathway, 1);
-    }
     if both(
         column_ranged(side.risk, risk),
         column_ranged(side.hazard, hazard),
@@ -164,19 +160,21 @@ fn worked_out(s: Scenario, medium: u32, r: Contaminant) -> GuidelineAnswer
     refused(Refusal::Range, 1)
 }
 
-// The eight guidelines of a contaminant under a scenario in a medium (1 soil, 2 water), or a refusal:
-// 4 or 6 in block 0 for the scenario and the medium; 4, 8 or 9 in block 1 for the contaminant.
+// The eight guidelines of a contaminant under a scenario in a medium (1 soil, 2 water), or a refusal: of the scenario
+// in block 0; of the contaminant in block 1, first 4, then those of its own tests.
 pub fn guideline(s: Scenario, medium: u32, r: Contaminant) -> GuidelineAnswer
     ensures { λ g. ⌜ g ≡ guidelineOf s medium r ⌝ }
 {
-    if scenario_fits(s, medium) {
-        if lacks_factor(s) {
-            return refused(Refusal::Factor, 0);
-        }
-        if contaminant_fits(r) {
-            return worked_out(s, medium, r);
-        }
+    let first = scenario_refusal(s, medium);
+    if !accepted(first) {
+        return refused(first, 0);
+    }
+    if !contaminant_fits(r) {
         return refused(Refusal::Field, 1);
     }
-    refused(Refusal::Field, 0)
+    let own = record_refusal(s, medium, r);
+    if !accepted(own) {
+        return refused(own, 1);
+    }
+    worked_out(s, medium, r)
 }

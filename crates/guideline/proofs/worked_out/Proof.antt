@@ -5,7 +5,7 @@ use Rattle.inputs.proofs.Tests.{contaminant-parts}
 use Rattle.factors.proofs.StandsLaws.{all-own}
 use Rattle.terms.proofs.SameValues.{ready}
 use Rattle.guideline.proofs.ColumnBounds.{column-printable}
-use Rattle.guideline.proofs.Steps.{Terms-of, Columns-of, wide, risk-column, hazard-column, none-out, in-range, accepted-out}
+use Rattle.guideline.proofs.Steps.{Terms-of, Columns-of, wide, risk-column, hazard-column, in-range, accepted-out}
 use borrow.Author.Needs.{needs}
 use Rattle.guideline.proofs.worked_out.Statement.{statement}
 use Rattle.guideline.proofs.worked_out.Tie as tie
@@ -46,7 +46,7 @@ Filled c =
 columns : (c : tie.After-columns-of) → Filled c
 columns c = let e = c .columns-of .ensures in record { terms = terms (c .before); risk = e .0; hazard = e .1 }
 
--- where the columns were filled, from where their sums were tested
+-- where the columns were filled, from where their ranges were tested
 abbrev filled : tie.After-both → tie.After-columns-of
 filled c = c .before .before .before .before .before
 
@@ -69,56 +69,38 @@ terms-of-requires c κs =
 columns-of-requires : tie.Need-columns-of-requires
 columns-of-requires c κs = wide (terms c)
 
-both-requires : tie.Need-both-requires
-both-requires c κs = search needs
-
-refused-requires : tie.Need-refused-requires
-refused-requires c κs = search needs
-
-returns : tie.Need-returns
-returns c =
-    let absent = c .before in
-    let tested = absent .before in
-    c .refused .ensures ∙ sym (none-out (columns (filled tested)) (sym (tested .both .ensures) ∙ absent .if1 .taken))
-
 column-ranged-requires : tie.Need-column-ranged-requires
 column-ranged-requires c κs = search needs
 
 column-ranged-requires-2 : tie.Need-column-ranged-requires-2
 column-ranged-requires-2 c κs = search needs
 
-both-requires-2 : tie.Need-both-requires-2
-both-requires-2 c κs = search needs
-
--- where the sums were tested, from where the ranges were
-abbrev tested : tie.After-both2 → tie.After-both
-tested c = c .before .before .before .before
+both-requires : tie.Need-both-requires
+both-requires c κs = search needs
 
 decimals-requires : tie.Need-decimals-requires
-decimals-requires c κs = column-printable (risk-column (columns (filled (tested (c .before)))))
+decimals-requires c κs = column-printable (risk-column (columns (filled (c .before))))
 
 decimals-requires-2 : tie.Need-decimals-requires-2
-decimals-requires-2 c κs = column-printable (hazard-column (columns (filled (tested (c .before .before)))))
+decimals-requires-2 c κs = column-printable (hazard-column (columns (filled (c .before .before))))
+
+returns : tie.Need-returns
+returns c =
+    let risk = c .before in
+    let ranged = risk .before .before in
+    rw (risk .decimals .ensures, c .decimals2 .ensures) (sym (accepted-out (columns (filled ranged))))
+
+refused-requires : tie.Need-refused-requires
+refused-requires c κs = search needs
 
 returns-2 : tie.Need-returns-2
 returns-2 c =
-    let risk = c .before in
-    let ranged = risk .before .before in
-    let some = ranged .before .before .before in
-    let sums = tested ranged in
-    rw (risk .decimals .ensures, c .decimals2 .ensures) (sym (accepted-out (columns (filled sums)) (sym (sums .both .ensures) ∙ some .if1 .left)))
-
-refused-requires-2 : tie.Need-refused-requires-2
-refused-requires-2 c κs = search needs
-
-returns-3 : tie.Need-returns-3
-returns-3 c =
     let out = c .before in
     let ranged = out .before in
     let hazard = ranged .before in
     let risk = hazard .before in
-    let good = in-range (columns (filled (tested ranged))) in
-    absurd (false≢true (sym (out .if2 .left) ∙ ranged .both2 .ensures ∙ rw (risk .column-ranged .ensures, hazard .column-ranged2 .ensures) good))
+    let good = in-range (columns (filled ranged)) in
+    absurd (false≢true (sym (out .if1 .left) ∙ ranged .both .ensures ∙ rw (risk .column-ranged .ensures, hazard .column-ranged2 .ensures) good))
 
 pub worked-out-spec : {M : Type 1} → statement M
 worked-out-spec =
@@ -129,14 +111,11 @@ worked-out-spec =
     contaminant-numbers-requires
     terms-of-requires
     columns-of-requires
-    both-requires
-    refused-requires
-    returns
     column-ranged-requires
     column-ranged-requires-2
-    both-requires-2
+    both-requires
     decimals-requires
     decimals-requires-2
-    returns-2
-    refused-requires-2
-    returns-3)
+    returns
+    refused-requires
+    returns-2)
