@@ -1,13 +1,14 @@
 -- What a scenario gives to every record, and what a record adds to the running sums: what the functions of `shares` promise.
 use mathlib.Core.Path.{_≡_}
 use mathlib.Core.Bool.{true, false, not, _||_}
-use Prim.Native.Nat.{ℕ, _≤_, _<_, _-_}
+use Prim.Native.Nat.{ℕ, _+_, _≤_, _<_, _-_}
 use lib.Dec.{eqb}
 use Rattle.rounding.specs.Sizes.{tenDigits, bias}
+use Rattle.rounding.specs.declared.Direction.{Direction}
 use Rattle.rounding.specs.declared.Direction.the-variants.{Down, Up}
 use Rattle.rounding.specs.declared.Number.{Number}
 use Rattle.rounding.specs.Operations.{productOf, sumOf}
-use Rattle.decimal.specs.Decimal.{decimalOf, workingOf}
+use Rattle.decimal.specs.Decimal.{decimalOf}
 use Rattle.outcome.specs.declared.Refusal.{Refusal}
 use Rattle.outcome.specs.Outcome.{numberOf}
 use Rattle.inputs.specs.declared.Scenario.{Scenario}
@@ -18,6 +19,7 @@ use Rattle.inputs.specs.Rules.{scenarioFits, lacksFactor, contaminantFits, OneO
 use Rattle.factors.specs.declared.numbers.ContaminantNumbers.{ContaminantNumbers}
 use Rattle.terms.specs.declared.pathways.PathwayTerms.{PathwayTerms}
 use Rattle.terms.specs.declared.pathways.Terms.{Terms}
+use Rattle.inputs.specs.Limits.{inputWidth, sumWidth}
 use Rattle.factors.specs.Stands.{Stands, FactorsFor, NumbersFor, Input}
 use Rattle.factors.specs.Prepared.{PreparedFor}
 use Rattle.terms.specs.Side.{TermsFor, TotalSize}
@@ -25,7 +27,7 @@ use Rattle.shares.specs.declared.Plan.{Plan}
 use Rattle.shares.specs.declared.Worked.{Worked}
 use Rattle.shares.specs.declared.SideRun.{SideRun}
 use Rattle.shares.specs.declared.Runs.{Runs}
-use Rattle.sum_rules.specs.Share.{Running}
+use Rattle.sum_rules.specs.Share.{Running, usedOf}
 use Rattle.sum_rules.specs.ListCall.{firstRefusal}
 
 -- ---- the plan: a scenario and a medium with the numbers worked out of them
@@ -73,7 +75,7 @@ pub record WorkedFor (p : Plan) (r : Contaminant) (w : Worked) : Type 0 where
   pub hazard : w .hazard ≡ totalFrom (below .hazard)
   pub risk-size : TotalSize (w .risk)
   pub hazard-size : TotalSize (w .hazard)
-  pub c : Stands 28 (w .c) (workingOf (r .c))
+  pub c : (dir : Direction) → Stands inputWidth (w .c) (usedOf r dir)
 
 -- ---- the running sums, as numbers
 abbrev pub noRuns : Runs
@@ -89,8 +91,8 @@ runningOf x = record { lower = decimalOf (x .lower); upper = decimalOf (x .upper
 -- sums that leave room for a share
 pub record NumberSize (r : Number) : Type 0 where
   pub most : r .m < tenDigits
-  pub low : 2239 ≤ r .x
-  pub high : r .x ≤ 3745
+  pub low : (bias - 8) ≤ r .x + sumWidth
+  pub high : r .x ≤ (bias - 8) + sumWidth
 
 pub record RunSize (x : SideRun) : Type 0 where
   pub lower : NumberSize (x .lower)

@@ -2,8 +2,7 @@
 use factors::prepared::Prepared;
 use inputs::Contaminant;
 use inputs::Scenario;
-use inputs::lacks_factor;
-use inputs::scenario_fits;
+use inputs::scenario_refusal;
 use outcome::Refusal;
 use outcome::accepted;
 use presence::either;
@@ -65,13 +64,7 @@ fn first_refusal(s: Scenario, medium: u32, n: usize) -> Refusal
     if MOST < n {
         return Refusal::Length;
     }
-    if !scenario_fits(s, medium) {
-        return Refusal::Field;
-    }
-    if lacks_factor(s) {
-        return Refusal::Factor;
-    }
-    Refusal::Accepted
+    scenario_refusal(s, medium)
 }
 
 // The plan of a scenario and a medium that keep their rules.

@@ -7,6 +7,7 @@ use Rattle.rounding.specs.declared.Number.{Number}
 use Rattle.rounding.specs.Number.{Working, worth, atMostOf as numbersAtMost}
 use Rattle.decimal.specs.Decimal.{decimalOf, Printable, valueOf, atMostOf}
 use Rattle.decimal.proofs.Laws.{decimal-worth, decimal-operable}
+use Rattle.inputs.specs.Limits.{sumWidth}
 use Rattle.factors.specs.Stands.{Stands}
 use Rattle.factors.proofs.StandsLaws.{stands-operand, stands-most}
 use Rattle.shares.specs.declared.Runs.{Runs}
@@ -27,7 +28,7 @@ compared {p} {q} s t =
     rw (a .tested, b .tested, decimal-worth p (s .working) .0, decimal-worth q (t .working) .0)
 
 -- sums after at most 120 records
-pub runs-comparable : {w : ℕ} {x : Runs} → w ≤ 753 → RunsReady w x → RunsReady 753 x
+pub runs-comparable : {w : ℕ} {x : Runs} → w ≤ sumWidth → RunsReady w x → RunsReady sumWidth x
 runs-comparable h x = record {
   risk = record { lower = stands-most h (x .risk .lower); upper = stands-most h (x .risk .upper) };
   hazard = record { lower = stands-most h (x .hazard .lower); upper = stands-most h (x .hazard .upper) };

@@ -1,32 +1,28 @@
 -- What the plan and the states of the list call keep: the plan, the first state, a state that stays, and one that is refused.
 -- So `begin`, `first` and `step` only say which case they are in. Assumes nothing.
 use mathlib.Core.Path.{_≡_, refl, sym, subst}
-use mathlib.Core.Bool.{true, false, _||_}
+use mathlib.Core.Bool.{true, false}
 use mathlib.Core.List.{List, _∷_}
-use Prim.Native.Nat.{ℕ, _≤_, _<_}
+use Prim.Native.Nat.{ℕ, _+_, _≤_, _<_}
 use native.Mathlib.Omega.{arith}
 use lib.Dec.{leb, lit≤}
 use borrow.Author.Tests.{eq-eqb, ne-eqb}
 use Rattle.outcome.specs.declared.Refusal.{Refusal}
-use Rattle.outcome.specs.declared.Refusal.the-variants.{Field, Order, Pathway}
+use Rattle.outcome.specs.declared.Refusal.the-variants.{Field, Order}
 use Rattle.outcome.specs.Outcome.{numberOf}
-use Rattle.inputs.specs.declared.Scenario.{Scenario}
 use Rattle.inputs.specs.declared.Contaminant.{Contaminant}
-use Rattle.inputs.specs.BuiltIn.{blank}
-use Rattle.inputs.specs.Inputs.{scenarioDecimals}
-use Rattle.inputs.specs.Valid.{validOf, allValid}
-use Rattle.inputs.specs.Rules.{oneOrTwo, scenarioFits, contaminantFits, OneOrTwo}
-use Rattle.inputs.proofs.Tests.{and-split, one-or-two}
+use Rattle.inputs.specs.Rules.{contaminantFits}
 use Rattle.factors.proofs.StandsLaws.{zero-stands, stands-most}
 use Rattle.shares.specs.declared.Plan.{Plan}
 use Rattle.sums.specs.declared.State.{State}
-use Rattle.sum_rules.specs.Share.{hasPathway}
+use Rattle.inputs.specs.Limits.{shareWidth}
+use Rattle.guideline_rules.specs.Pathway.{recordRefusal}
 use Rattle.sum_rules.specs.ListCall.{refused}
 use Rattle.shares.specs.Plan.{runningOf, noRuns}
 use Rattle.sums.specs.State.{steps, answerFrom, RunsReady, Good, Stepped, refuseOf}
 
 -- ---- sums of nothing
-pub none-ready : RunsReady 633 noRuns
+pub none-ready : RunsReady (shareWidth + 1) noRuns
 none-ready = record {
   risk = record { lower = stands-most (lit≤ tt) zero-stands; upper = stands-most (lit≤ tt) zero-stands };
   hazard = record { lower = stands-most (lit≤ tt) zero-stands; upper = stands-most (lit≤ tt) zero-stands };
@@ -47,7 +43,8 @@ module _ {p : Plan} {t : State} (r : Contaminant) (g : Good p t) where
 
   -- a record that is refused in its own block
   stepped-refused : numberOf (t .refusal) ≡ 0 → (n : Refusal) → (numberOf n ≡ 0 → ⊥) →
-      ((rs : List Contaminant) → steps (p .scenario) (p .medium) (r ∷ rs) (t .place) (t .previous) (runningOf (t .runs .risk)) (runningOf (t .runs .hazard)) ≡ refused n (t .place)) →
+      ((rs : List Contaminant) →
+      steps (p .scenario) (p .medium) (r ∷ rs) (t .place) (t .previous) (runningOf (t .runs .risk)) (runningOf (t .runs .hazard)) ≡ refused n (t .place)) →
       {u : State} → u ≡ refuseOf t n → Stepped p t r u
   unfolding answerFrom
   stepped-refused z n nz h e = subst (Stepped p t r) (sym e)
@@ -66,7 +63,8 @@ module _ {p : Plan} {t : State} (r : Contaminant) (g : Good p t) where
     unfolding steps
     stepped-order h k e = stepped-refused z Order (λ q. omega (arith, q)) (λ rs. rw (h, k)) e
 
-    pub stepped-pathway : contaminantFits r ≡ true → leb (r .id) (t .previous) ≡ false → hasPathway (p .scenario) (p .medium) r 0 || hasPathway (p .scenario) (p .medium) r 1 ≡ false →
-        u ≡ refuseOf t Pathway → Stepped p t r u
+    -- refused by its own tests
+    pub stepped-record : contaminantFits r ≡ true → leb (r .id) (t .previous) ≡ false → {n : Refusal} → n ≡ recordRefusal (p .scenario) (p .medium) r →
+        (numberOf n ≡ 0 → ⊥) → u ≡ refuseOf t n → Stepped p t r u
     unfolding steps
-    stepped-pathway h k n e = stepped-refused z Pathway (λ q. omega (arith, q)) (λ rs. rw (h, k, n)) e
+    stepped-record h k {n} q nz e = stepped-refused z n nz (λ rs. rw (h, k, ← q, ne-eqb (numberOf n) 0 nz)) e

@@ -1,19 +1,22 @@
 -- The state of the list call between two records, what it means, and what the functions over it promise.
 use mathlib.Core.Path.{_≡_}
-use mathlib.Core.Bool.{true, false, cond, _||_}
+use mathlib.Core.Bool.{true, false, cond}
 use mathlib.Core.List.{List, [], _∷_}
 use Prim.Native.Nat.{ℕ, _+_, _≤_}
 use lib.Dec.{eqb, leb}
 use lib.ListN.{length}
 use Rattle.rounding.specs.declared.Number.{Number}
 use Rattle.decimal.specs.declared.Decimal.{Decimal}
-use Rattle.decimal.specs.Decimal.{decimalOf, workingOf}
+use Rattle.decimal.specs.Decimal.{decimalOf}
 use Rattle.outcome.specs.declared.Refusal.{Refusal}
-use Rattle.outcome.specs.declared.Refusal.the-variants.{Accepted, Field, Order, Pathway}
+use Rattle.outcome.specs.declared.Refusal.the-variants.{Accepted, Field, Order}
 use Rattle.outcome.specs.Outcome.{numberOf}
 use Rattle.inputs.specs.declared.Scenario.{Scenario}
 use Rattle.inputs.specs.declared.Contaminant.{Contaminant}
 use Rattle.inputs.specs.Rules.{contaminantFits, mostContaminants}
+use Rattle.inputs.specs.Limits.{shareWidth, sumWidth}
+use Rattle.formulas.specs.Side.{Risk, Hazard}
+use Rattle.guideline_rules.specs.Pathway.{recordRefusal}
 use Rattle.factors.specs.Stands.{Stands}
 use Rattle.shares.specs.declared.Plan.{Plan}
 use Rattle.shares.specs.declared.SideRun.{SideRun}
@@ -22,8 +25,8 @@ use Rattle.sums.specs.declared.State.{State}
 use Rattle.sum_rules.specs.declared.SideSums.{SideSums}
 use Rattle.sum_rules.specs.declared.SumsAnswer.{SumsAnswer}
 use Rattle.sum_rules.specs.Verdict.{verdictOf}
-use Rattle.sum_rules.specs.Share.{Running, next, hasPathway}
-use Rattle.sum_rules.specs.ListCall.{refused, accepted}
+use Rattle.sum_rules.specs.Share.{Running, next}
+use Rattle.sum_rules.specs.ListCall.{workingTarget, refused, accepted}
 use Rattle.shares.specs.Plan.{PlanReady, PlanFits, noRuns, runningOf}
 
 -- the records one by one without condition 9, which cannot hold (proofs/InRange.antt)
@@ -32,9 +35,9 @@ steps s medium [] n before risk hazard = accepted s risk hazard
 steps s medium (r ∷ rs) n before risk hazard =
     cond (contaminantFits r)
     (cond (leb (r .id) before) (refused Order n)
-    (cond (hasPathway s medium r 0 || hasPathway s medium r 1)
-    (steps s medium rs (n + 1) (r .id) (next s medium 0 risk r) (next s medium 1 hazard r))
-    (refused Pathway n)))
+    (cond (eqb (numberOf (recordRefusal s medium r)) 0)
+    (steps s medium rs (n + 1) (r .id) (next s medium Risk risk r) (next s medium Hazard hazard r))
+    (refused (recordRefusal s medium r) n)))
     (refused Field n)
 
 -- the answer from this state with the rest of the records
@@ -59,15 +62,15 @@ pub record RunsReady (w : ℕ) (x : Runs) : Type 0 where
 
 -- the sums y after x and the record r at a place
 pub record NextRuns (p : Plan) (r : Contaminant) (place : ℕ) (x y : Runs) : Type 0 where
-  pub ready : RunsReady (632 + (place + 1)) y
-  pub risk : runningOf (y .risk) ≡ next (p .scenario) (p .medium) 0 (runningOf (x .risk)) r
-  pub hazard : runningOf (y .hazard) ≡ next (p .scenario) (p .medium) 1 (runningOf (x .hazard)) r
+  pub ready : RunsReady (shareWidth + (place + 1)) y
+  pub risk : runningOf (y .risk) ≡ next (p .scenario) (p .medium) Risk (runningOf (x .risk)) r
+  pub hazard : runningOf (y .hazard) ≡ next (p .scenario) (p .medium) Hazard (runningOf (x .hazard)) r
 
 -- what every state keeps
 pub record Good (p : Plan) (t : State) : Type 0 where
   pub ready : PlanReady p
   pub place : t .place ≤ mostContaminants + 1
-  pub runs : RunsReady (632 + t .place) (t .runs)
+  pub runs : RunsReady (shareWidth + t .place) (t .runs)
   pub passed : numberOf (t .refusal) ≡ 0 → PlanFits p
 
 -- u is the state after t and the record r
@@ -95,7 +98,7 @@ pub record Advancing (p : Plan) (t : State) (r : Contaminant) : Type 0 where
 
 -- a number that can be compared by its worth
 abbrev pub Comparable : Number → Type 0
-Comparable r = Stands 753 r (decimalOf r)
+Comparable r = Stands sumWidth r (decimalOf r)
 
 -- the sums of a side with its target in working form
 abbrev pub sideSumsOf : SideRun → Decimal → SideSums
@@ -106,5 +109,9 @@ sideSumsOf x target = record {
 }
 
 abbrev pub reportedOf : Scenario → Runs → SumsAnswer
-reportedOf s x =
-    record { refusal = Accepted; block = 0; risk = sideSumsOf (x .risk) (workingOf (s .targets .tr)); hazard = sideSumsOf (x .hazard) (workingOf (s .targets .thi)) }
+reportedOf s x = record {
+  refusal = Accepted;
+  block = 0;
+  risk = sideSumsOf (x .risk) (workingTarget s Risk);
+  hazard = sideSumsOf (x .hazard) (workingTarget s Hazard);
+}

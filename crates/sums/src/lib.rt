@@ -5,7 +5,7 @@ use inputs::MOST_CONTAMINANTS;
 use inputs::contaminant_fits;
 use outcome::Refusal;
 use outcome::accepted;
-use presence::has_pathway;
+use presence::record_refusal;
 use rounding::Direction;
 use rounding::Number;
 use shares::Plan;
@@ -19,6 +19,7 @@ ghost use mathlib.Core.Path.{_≡_};
 ghost use mathlib.Core.List.{[]};
 ghost use Prim.Native.Nat.{_≤_};
 ghost use Rattle.inputs.specs.Rules.{mostContaminants};
+ghost use Rattle.inputs.specs.Limits.{sumWidth};
 ghost use Rattle.sum_rules.specs.Verdict.{verdictNumber, verdictOf};
 ghost use Rattle.sum_rules.specs.ListCall.{refused as refusedOf};
 ghost use Rattle.decimal.specs.Decimal.{decimalOf};
@@ -124,13 +125,14 @@ fn moved(t: State, id: u32, runs: Runs) -> State
     }
 }
 
-// The state after a record that keeps its rules and its order: refusal 8, or the new sums.
+// The state after a record that keeps its rules and its order: refused by its own tests, or the new sums.
 fn advance(p: Plan, t: State, r: Contaminant) -> State
     requires { ⌜ Advancing p t r ⌝ }
     ensures { λ u. ⌜ Stepped p t r u ⌝ }
 {
-    if !has_pathway(p.scenario, p.medium, r) {
-        return refuse(t, Refusal::Pathway);
+    let own = record_refusal(p.scenario, p.medium, r);
+    if !accepted(own) {
+        return refuse(t, own);
     }
     let w = shares::work(p, r);
     let risk = total(w.above.risk, Direction::Up);
@@ -161,7 +163,7 @@ pub fn step(p: Plan, t: State, r: Contaminant) -> State
 
 // The sums of a side as decimals, with the verdict.
 fn side_sums(x: SideRun, target: Number) -> SideSums
-    requires { ⌜ SideReady 753 x × Comparable target ⌝ }
+    requires { ⌜ SideReady sumWidth x × Comparable target ⌝ }
     ensures { λ r. ⌜ r ≡ sideSumsOf x (decimalOf target) ⌝ }
 {
     SideSums {
@@ -173,7 +175,7 @@ fn side_sums(x: SideRun, target: Number) -> SideSums
 
 // The answer of a call that is accepted: the sums of both sides.
 pub fn reported(p: Plan, x: Runs) -> SumsAnswer
-    requires { ⌜ PlanReady p × RunsReady 753 x ⌝ }
+    requires { ⌜ PlanReady p × RunsReady sumWidth x ⌝ }
     ensures { λ a. ⌜ a ≡ reportedOf (p .scenario) x ⌝ }
 {
     let targets = p.up.factors.targets;

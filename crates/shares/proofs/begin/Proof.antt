@@ -1,12 +1,9 @@
 -- `shares::begin` meets its contract. Assumes nothing.
 use mathlib.Core.Path.{_≡_, sym, ap, _∙_, refl}
-use mathlib.Core.Bool.{_&&_}
 use mathlib.Core.Logic.{inl}
-use lib.Dec.{leb}
 use borrow.Author.Tests.{eqb-true, eqb-false}
 use Rattle.outcome.specs.Outcome.{numberOf}
 use Rattle.inputs.specs.Inputs.{scenarioOf, exposureOf, contactOf, targetsOf}
-use Rattle.inputs.specs.Rules.{scenarioFits, lacksFactor}
 use Rattle.sum_rules.proofs.Runs.{first-passed}
 use Rattle.shares.proofs.Plans.{blank-valid, fits-parts}
 use borrow.Author.Needs.{needs}
@@ -26,7 +23,7 @@ planned-requires c κs =
     let a = refusal .before .args in
     let accepted = sym (asked .accepted .ensures) ∙ c .if1 .taken in
     let zero = sym (ap numberOf (refusal .first-refusal .ensures)) ∙ eqb-true (numberOf (refusal .first-refusal .result)) 0 accepted in
-    fits-parts (a .s) (a .medium) (first-passed (leb 1 (a .n) && leb (a .n) 120) (scenarioFits (a .s) (a .medium)) (lacksFactor (a .s)) zero .1 .0)
+    fits-parts (a .s) (a .medium) (first-passed (a .s) (a .medium) (a .n) zero .scenario .fits)
 
 returns : tie.Need-returns
 returns c =

@@ -1,5 +1,6 @@
 -- `shares::work` meets its contract. Assumes nothing.
 use Rattle.inputs.proofs.Tests.{contaminant-parts}
+use Rattle.sum_rules.specs.Share.{usedOf}
 use Rattle.terms.proofs.SameValues.{ready}
 use Rattle.shares.proofs.Plans.{inputs-of}
 use borrow.Author.Needs.{needs}
@@ -32,6 +33,7 @@ total-requires-2 : tie.Need-total-requires-2
 total-requires-2 c κs = search needs
 
 returns : tie.Need-returns
+unfolding usedOf
 returns c =
     let risk = c .before in
     let concentration = risk .before in
@@ -48,7 +50,7 @@ returns c =
       hazard = c .total2 .ensures .0;
       risk-size = risk .total .ensures .1;
       hazard-size = c .total2 .ensures .1;
-      c = concentration .number-of .ensures;
+      c = λ dir. concentration .number-of .ensures;
     }
 
 pub work-spec : {M : Type 1} → statement M
