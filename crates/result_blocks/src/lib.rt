@@ -24,8 +24,7 @@ fn put_block(site: &[u8], p: Plan, place: u32, x: Runs, out: &mut [u8]) -> Runs
     let to = at + 508;
     let r = blocks::get_contaminant(&site[from..to], 4);
     let w = shares::work(p, r);
-    let targets = p.up.factors.targets;
-    let g = guideline::columns_of(targets.tr, targets.thi, w.above);
+    let g = guideline::columns_of(p.up.factors.targets.tr, p.up.factors.targets.thi, w.above);
     let risk = guideline::decimals(g.risk);
     let hazard = guideline::decimals(g.hazard);
     block_output::put_result(out, place, r.class, r.id, risk, hazard);
