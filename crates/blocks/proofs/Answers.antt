@@ -1,11 +1,12 @@
 -- What the readers answer once each test has gone one way or the other. Assumes nothing.
 use mathlib.Core.Path.{_≡_, sym, ap, ap₂, _∙_}
 use mathlib.Core.List.{List}
-use mathlib.Core.Bool.{Bool, true, false, _&&_}
+use mathlib.Core.Bool.{Bool, true, false, _&&_, not}
 use Prim.Native.Nat.{ℕ, _+_, _-_}
 use native.Mathlib.Omega.{arith}
 use lib.ListN.{length, take, drop}
 use lib.Dec.{eqb, leb}
+use borrow.Author.Tests.{eq-eqb, not-false}
 use Rattle.outcome.specs.declared.Refusal.the-variants.{Length, Check, Kind, Field, Count, Factor, Order}
 use Rattle.words.specs.Words.{wordAt, partOf}
 use Rattle.words.proofs.Parts.{word-first}
@@ -32,6 +33,15 @@ module _ (s : List ℕ) (at : ℕ) where
 
   pub kind-here : (kind w : ℕ) (t : Bool) → w ≡ wordAt s at → eqb w kind ≡ t → eqb (wordAt (partOf s at 512) 0) kind ≡ t
   kind-here kind w t e h = ap (λ (n : ℕ). eqb n kind) (word-first s at 512 (omega arith) ∙ sym e) ∙ h
+
+  -- a whole block that is sound and of this kind
+  pub passed-here : {place kind w : ℕ} {t u : Bool} → t ≡ eqb (length (partOf s at 512)) 512 → not t ≡ false
+      → u ≡ soundAt (take (at + 512 - at) (drop at s)) place → not u ≡ false → w ≡ wordAt s at → w ≡ kind → Passed (partOf s at 512) place kind
+  passed-here {place} {kind} {w} {t} {u} long n sound m word k = record {
+    long = sym long ∙ not-false t n;
+    sound = sound-here place u sound ∙ not-false u m;
+    first = kind-here kind w true word (eq-eqb w kind k);
+  }
 
   pub contaminant-here : (r : Contaminant) → r ≡ contaminantAt (take (at + 508 - (at + 4)) (drop (at + 4) s)) 4 → r ≡ contaminantAt (partOf s at 512) 8
   contaminant-here r e = e ∙ ap (λ (p : List ℕ). contaminantAt p 4) (inner s at) ∙ contaminant-part (partOf s at 512)

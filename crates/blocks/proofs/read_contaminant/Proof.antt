@@ -1,14 +1,12 @@
 -- `blocks::read_contaminant` meets its contract. Assumes nothing.
-use mathlib.Core.Path.{_≡_, sym, _∙_}
-use mathlib.Core.Bool.{true, false}
+use mathlib.Core.Path.{sym, _∙_}
+use mathlib.Core.Bool.{false}
 use native.Mathlib.Omega.{arith}
-use lib.ListN.{length}
-use lib.Dec.{eqb}
-use borrow.Author.Tests.{eq-eqb, ne-eqb, le-leb, lt-leb, not-true, not-false}
+use borrow.Author.Tests.{ne-eqb, le-leb, lt-leb, not-true, not-false}
 use Rattle.words.specs.Words.{partOf}
-use Rattle.block_rules.specs.Reading.{soundAt}
 use Rattle.blocks.proofs.Parts.{block-fits}
-use Rattle.blocks.proofs.Answers.{Passed, sound-here, kind-here, contaminant-here, contaminant-fields-here, contaminant-short, contaminant-check, contaminant-kind, contaminant-field, contaminant-order, contaminant-found}
+use Rattle.blocks.proofs.Answers.{sound-here, kind-here, passed-here, contaminant-here, contaminant-fields-here}
+use Rattle.blocks.proofs.Answers.{contaminant-short, contaminant-check, contaminant-kind, contaminant-field, contaminant-order, contaminant-found}
 use borrow.Author.Needs.{needs}
 use Rattle.blocks.proofs.read_contaminant.Statement.{statement}
 use Rattle.blocks.proofs.read_contaminant.Tie as tie
@@ -18,14 +16,14 @@ has-block-requires c κs = search needs
 
 returns : tie.Need-returns
 returns c =
-    let s = c .before .before .before .args .site .now in
-    let at = c .before .before .before .args .at in
-    let b = partOf s at 512 in
-    contaminant-short b (c .before .before .before .args .place) (c .before .before .before .args .previous) (sym (c .before .has-block .ensures) ∙ not-true _ (c .if1 .taken))
+    let start = c .before .before .before .args in
+    contaminant-short (partOf (start .site .now) (start .at) 512) (start .place) (start .previous) (sym (c .before .has-block .ensures) ∙ not-true _ (c .if1 .taken))
 
 add-end : tie.Need-add-end
 add-end c =
-    let h = block-fits (c .before .before .before .args .site .now) (c .before .before .before .args .at) (sym (c .before .has-block .ensures) ∙ not-false _ (c .if1 .left)) in
+    let block = c .before in
+    let start = block .before .before .args in
+    let h = block-fits (start .site .now) (start .at) (sym (block .has-block .ensures) ∙ not-false _ (c .if1 .left)) in
     omega arith
 
 sub-sound : tie.Need-sub-sound
@@ -36,7 +34,9 @@ part-sound-start c = search needs
 
 part-sound-end : tie.Need-part-sound-end
 part-sound-end c =
-    let h = block-fits (c .before .before .before .args .site .now) (c .before .before .before .args .at) (sym (c .before .has-block .ensures) ∙ not-false _ (c .if1 .left)) in
+    let block = c .before in
+    let start = block .before .before .args in
+    let h = block-fits (start .site .now) (start .at) (sym (block .has-block .ensures) ∙ not-false _ (c .if1 .left)) in
     search needs
 
 sound-requires : tie.Need-sound-requires
@@ -44,34 +44,51 @@ sound-requires c κs = search needs
 
 returns-2 : tie.Need-returns-2
 returns-2 c =
-    let s = c .before .before .before .before .before .before .args .site .now in
-    let at = c .before .before .before .before .before .before .args .at in
-    let b = partOf s at 512 in
-    let long : eqb (length b) 512 ≡ true = sym (c .before .before .before .before .has-block .ensures) ∙ not-false _ (c .before .before .before .if1 .left) in
-    contaminant-check b (c .before .before .before .before .before .before .args .place) (c .before .before .before .before .before .before .args .previous) long (sound-here s at (c .before .before .before .before .before .before .args .place) _ (c .before .sound .ensures) ∙ not-true _ (c .if2 .taken))
+    let sound = c .before in
+    let long = sound .before .before in
+    let block = long .before in
+    let start = block .before .before .args in
+    let s = start .site .now in
+    let at = start .at in
+    contaminant-check (partOf s at 512) (start .place) (start .previous) (sym (block .has-block .ensures) ∙ not-false _ (long .if1 .left))
+    (sound-here s at (start .place) _ (sound .sound .ensures) ∙ not-true _ (c .if2 .taken))
 
 word-requires : tie.Need-word-requires
 word-requires c κs =
-    let h = block-fits (c .before .before .before .before .before .before .args .site .now) (c .before .before .before .before .before .before .args .at) (sym (c .before .before .before .before .has-block .ensures) ∙ not-false _ (c .before .before .before .if1 .left)) in
+    let long = c .before .before .before in
+    let block = long .before in
+    let start = block .before .before .args in
+    let h = block-fits (start .site .now) (start .at) (sym (block .has-block .ensures) ∙ not-false _ (long .if1 .left)) in
     omega arith
 
 returns-3 : tie.Need-returns-3
 returns-3 c =
-    let s = c .before .before .before .before .before .before .before .before .args .site .now in
-    let at = c .before .before .before .before .before .before .before .before .args .at in
-    let b = partOf s at 512 in
-    let long : eqb (length b) 512 ≡ true = sym (c .before .before .before .before .before .before .has-block .ensures) ∙ not-false _ (c .before .before .before .before .before .if1 .left) in
-    let sound : soundAt b (c .before .before .before .before .before .before .before .before .args .place) ≡ true = sound-here s at (c .before .before .before .before .before .before .before .before .args .place) _ (c .before .before .before .sound .ensures) ∙ not-false _ (c .before .before .if2 .left) in
-    contaminant-kind b (c .before .before .before .before .before .before .before .before .args .place) (c .before .before .before .before .before .before .before .before .args .previous) long sound (kind-here s at 2 _ false (c .before .word .ensures) (ne-eqb _ _ (c .if3 .taken)))
+    let word = c .before in
+    let whole = word .before in
+    let sound = whole .before in
+    let long = sound .before .before in
+    let block = long .before in
+    let start = block .before .before .args in
+    let s = start .site .now in
+    let at = start .at in
+    contaminant-kind (partOf s at 512) (start .place) (start .previous) (sym (block .has-block .ensures) ∙ not-false _ (long .if1 .left))
+    (sound-here s at (start .place) _ (sound .sound .ensures) ∙ not-false _ (whole .if2 .left))
+    (kind-here s at 2 _ false (word .word .ensures) (ne-eqb _ _ (c .if3 .taken)))
 
 add-from : tie.Need-add-from
 add-from c =
-    let h = block-fits (c .before .before .before .before .before .before .before .before .args .site .now) (c .before .before .before .before .before .before .before .before .args .at) (sym (c .before .before .before .before .before .before .has-block .ensures) ∙ not-false _ (c .before .before .before .before .before .if1 .left)) in
+    let long = c .before .before .before .before .before in
+    let block = long .before in
+    let start = block .before .before .args in
+    let h = block-fits (start .site .now) (start .at) (sym (block .has-block .ensures) ∙ not-false _ (long .if1 .left)) in
     omega arith
 
 add-to : tie.Need-add-to
 add-to c =
-    let h = block-fits (c .before .before .before .before .before .before .before .before .args .site .now) (c .before .before .before .before .before .before .before .before .args .at) (sym (c .before .before .before .before .before .before .has-block .ensures) ∙ not-false _ (c .before .before .before .before .before .if1 .left)) in
+    let long = c .before .before .before .before .before in
+    let block = long .before in
+    let start = block .before .before .args in
+    let h = block-fits (start .site .now) (start .at) (sym (block .has-block .ensures) ∙ not-false _ (long .if1 .left)) in
     omega arith
 
 sub-part : tie.Need-sub-part
@@ -82,7 +99,10 @@ part-part-start c = search needs
 
 part-part-end : tie.Need-part-part-end
 part-part-end c =
-    let h = block-fits (c .before .before .before .before .before .before .before .before .args .site .now) (c .before .before .before .before .before .before .before .before .args .at) (sym (c .before .before .before .before .before .before .has-block .ensures) ∙ not-false _ (c .before .before .before .before .before .if1 .left)) in
+    let long = c .before .before .before .before .before in
+    let block = long .before in
+    let start = block .before .before .args in
+    let h = block-fits (start .site .now) (start .at) (sym (block .has-block .ensures) ∙ not-false _ (long .if1 .left)) in
     search needs
 
 get-contaminant-requires : tie.Need-get-contaminant-requires
@@ -99,42 +119,68 @@ both-requires c κs = search needs
 
 returns-4 : tie.Need-returns-4
 returns-4 c =
-    let s = c .before .before .before .before .before .before .before .before .before .before .before .before .before .before .args .site .now in
-    let at = c .before .before .before .before .before .before .before .before .before .before .before .before .before .before .args .at in
-    let b = partOf s at 512 in
-    let long : eqb (length b) 512 ≡ true = sym (c .before .before .before .before .before .before .before .before .before .before .before .before .has-block .ensures) ∙ not-false _ (c .before .before .before .before .before .before .before .before .before .before .before .if1 .left) in
-    let sound : soundAt b (c .before .before .before .before .before .before .before .before .before .before .before .before .before .before .args .place) ≡ true = sound-here s at (c .before .before .before .before .before .before .before .before .before .before .before .before .before .before .args .place) _ (c .before .before .before .before .before .before .before .before .before .sound .ensures) ∙ not-false _ (c .before .before .before .before .before .before .before .before .if2 .left) in
-    let p : Passed b (c .before .before .before .before .before .before .before .before .before .before .before .before .before .before .args .place) 2 = record { long = long; sound = sound; first = kind-here s at 2 _ true (c .before .before .before .before .before .before .before .word .ensures) (eq-eqb _ _ (c .before .before .before .before .before .before .if3 .left)) } in
-    let r = c .before .before .before .before .get-contaminant .result in
-    let is = contaminant-here s at r (c .before .before .before .before .get-contaminant .ensures) in
-    let good = contaminant-fields-here s at r _ _ _ (c .before .both .ensures) (c .before .before .before .contaminant-fits .ensures) (c .before .before .contaminant-unused .ensures) in
-    contaminant-field b (c .before .before .before .before .before .before .before .before .before .before .before .before .before .before .args .place) (c .before .before .before .before .before .before .before .before .before .before .before .before .before .before .args .previous) p r is (sym good ∙ not-true _ (c .if4 .taken))
+    let fields = c .before in
+    let unused = fields .before in
+    let fits = unused .before in
+    let read = fits .before in
+    let kind = read .before .before in
+    let word = kind .before in
+    let whole = word .before in
+    let sound = whole .before in
+    let long = sound .before .before in
+    let block = long .before in
+    let start = block .before .before .args in
+    let s = start .site .now in
+    let at = start .at in
+    let p = passed-here s at (block .has-block .ensures) (long .if1 .left) (sound .sound .ensures) (whole .if2 .left) (word .word .ensures) (kind .if3 .left) in
+    let r = read .get-contaminant .result in
+    let is = contaminant-here s at r (read .get-contaminant .ensures) in
+    let good = contaminant-fields-here s at r _ _ _ (fields .both .ensures) (fits .contaminant-fits .ensures) (unused .contaminant-unused .ensures) in
+    contaminant-field (partOf s at 512) (start .place) (start .previous) p r is (sym good ∙ not-true _ (c .if4 .taken))
 
 returns-5 : tie.Need-returns-5
 returns-5 c =
-    let s = c .before .before .before .before .before .before .before .before .before .before .before .before .before .before .before .before .args .site .now in
-    let at = c .before .before .before .before .before .before .before .before .before .before .before .before .before .before .before .before .args .at in
-    let b = partOf s at 512 in
-    let long : eqb (length b) 512 ≡ true = sym (c .before .before .before .before .before .before .before .before .before .before .before .before .before .before .has-block .ensures) ∙ not-false _ (c .before .before .before .before .before .before .before .before .before .before .before .before .before .if1 .left) in
-    let sound : soundAt b (c .before .before .before .before .before .before .before .before .before .before .before .before .before .before .before .before .args .place) ≡ true = sound-here s at (c .before .before .before .before .before .before .before .before .before .before .before .before .before .before .before .before .args .place) _ (c .before .before .before .before .before .before .before .before .before .before .before .sound .ensures) ∙ not-false _ (c .before .before .before .before .before .before .before .before .before .before .if2 .left) in
-    let p : Passed b (c .before .before .before .before .before .before .before .before .before .before .before .before .before .before .before .before .args .place) 2 = record { long = long; sound = sound; first = kind-here s at 2 _ true (c .before .before .before .before .before .before .before .before .before .word .ensures) (eq-eqb _ _ (c .before .before .before .before .before .before .before .before .if3 .left)) } in
-    let r = c .before .before .before .before .before .before .get-contaminant .result in
-    let is = contaminant-here s at r (c .before .before .before .before .before .before .get-contaminant .ensures) in
-    let good = contaminant-fields-here s at r _ _ _ (c .before .before .before .both .ensures) (c .before .before .before .before .before .contaminant-fits .ensures) (c .before .before .before .before .contaminant-unused .ensures) in
-    contaminant-order b (c .before .before .before .before .before .before .before .before .before .before .before .before .before .before .before .before .args .place) (c .before .before .before .before .before .before .before .before .before .before .before .before .before .before .before .before .args .previous) p r is (sym good ∙ not-false _ (c .before .before .if4 .left)) (le-leb _ _ (c .if5 .taken))
+    let right = c .before .before in
+    let fields = right .before in
+    let unused = fields .before in
+    let fits = unused .before in
+    let read = fits .before in
+    let kind = read .before .before in
+    let word = kind .before in
+    let whole = word .before in
+    let sound = whole .before in
+    let long = sound .before .before in
+    let block = long .before in
+    let start = block .before .before .args in
+    let s = start .site .now in
+    let at = start .at in
+    let p = passed-here s at (block .has-block .ensures) (long .if1 .left) (sound .sound .ensures) (whole .if2 .left) (word .word .ensures) (kind .if3 .left) in
+    let r = read .get-contaminant .result in
+    let is = contaminant-here s at r (read .get-contaminant .ensures) in
+    let good = contaminant-fields-here s at r _ _ _ (fields .both .ensures) (fits .contaminant-fits .ensures) (unused .contaminant-unused .ensures) in
+    contaminant-order (partOf s at 512) (start .place) (start .previous) p r is (sym good ∙ not-false _ (right .if4 .left)) (le-leb _ _ (c .if5 .taken))
 
 returns-6 : tie.Need-returns-6
 returns-6 c =
-    let s = c .before .before .before .before .before .before .before .before .before .before .before .before .before .before .before .before .args .site .now in
-    let at = c .before .before .before .before .before .before .before .before .before .before .before .before .before .before .before .before .args .at in
-    let b = partOf s at 512 in
-    let long : eqb (length b) 512 ≡ true = sym (c .before .before .before .before .before .before .before .before .before .before .before .before .before .before .has-block .ensures) ∙ not-false _ (c .before .before .before .before .before .before .before .before .before .before .before .before .before .if1 .left) in
-    let sound : soundAt b (c .before .before .before .before .before .before .before .before .before .before .before .before .before .before .before .before .args .place) ≡ true = sound-here s at (c .before .before .before .before .before .before .before .before .before .before .before .before .before .before .before .before .args .place) _ (c .before .before .before .before .before .before .before .before .before .before .before .sound .ensures) ∙ not-false _ (c .before .before .before .before .before .before .before .before .before .before .if2 .left) in
-    let p : Passed b (c .before .before .before .before .before .before .before .before .before .before .before .before .before .before .before .before .args .place) 2 = record { long = long; sound = sound; first = kind-here s at 2 _ true (c .before .before .before .before .before .before .before .before .before .word .ensures) (eq-eqb _ _ (c .before .before .before .before .before .before .before .before .if3 .left)) } in
-    let r = c .before .before .before .before .before .before .get-contaminant .result in
-    let is = contaminant-here s at r (c .before .before .before .before .before .before .get-contaminant .ensures) in
-    let good = contaminant-fields-here s at r _ _ _ (c .before .before .before .both .ensures) (c .before .before .before .before .before .contaminant-fits .ensures) (c .before .before .before .before .contaminant-unused .ensures) in
-    contaminant-found b (c .before .before .before .before .before .before .before .before .before .before .before .before .before .before .before .before .args .place) (c .before .before .before .before .before .before .before .before .before .before .before .before .before .before .before .before .args .previous) p r is (sym good ∙ not-false _ (c .before .before .if4 .left)) (lt-leb _ _ (c .if5 .left))
+    let right = c .before .before in
+    let fields = right .before in
+    let unused = fields .before in
+    let fits = unused .before in
+    let read = fits .before in
+    let kind = read .before .before in
+    let word = kind .before in
+    let whole = word .before in
+    let sound = whole .before in
+    let long = sound .before .before in
+    let block = long .before in
+    let start = block .before .before .args in
+    let s = start .site .now in
+    let at = start .at in
+    let p = passed-here s at (block .has-block .ensures) (long .if1 .left) (sound .sound .ensures) (whole .if2 .left) (word .word .ensures) (kind .if3 .left) in
+    let r = read .get-contaminant .result in
+    let is = contaminant-here s at r (read .get-contaminant .ensures) in
+    let good = contaminant-fields-here s at r _ _ _ (fields .both .ensures) (fits .contaminant-fits .ensures) (unused .contaminant-unused .ensures) in
+    contaminant-found (partOf s at 512) (start .place) (start .previous) p r is (sym good ∙ not-false _ (right .if4 .left)) (lt-leb _ _ (c .if5 .left))
 
 pub read-contaminant-spec : {M : Type 1} → statement M
 read-contaminant-spec =

@@ -1,14 +1,12 @@
 -- `blocks::read_header` meets its contract. Assumes nothing.
-use mathlib.Core.Path.{_≡_, sym, _∙_}
-use mathlib.Core.Bool.{true, false}
+use mathlib.Core.Path.{sym, _∙_}
+use mathlib.Core.Bool.{false}
 use native.Mathlib.Omega.{arith}
-use lib.ListN.{length}
-use lib.Dec.{eqb}
-use borrow.Author.Tests.{eq-eqb, ne-eqb, not-true, not-false}
+use borrow.Author.Tests.{ne-eqb, not-true, not-false}
 use Rattle.words.specs.Words.{partOf}
-use Rattle.block_rules.specs.Reading.{soundAt}
 use Rattle.blocks.proofs.Parts.{block-fits}
-use Rattle.blocks.proofs.Answers.{Passed, sound-here, kind-here, header-here, header-fields-here, header-short, header-check, header-kind, header-field, header-count, header-factor, header-found}
+use Rattle.blocks.proofs.Answers.{sound-here, kind-here, passed-here, header-here, header-fields-here}
+use Rattle.blocks.proofs.Answers.{header-short, header-check, header-kind, header-field, header-count, header-factor, header-found}
 use borrow.Author.Needs.{needs}
 use Rattle.blocks.proofs.read_header.Statement.{statement}
 use Rattle.blocks.proofs.read_header.Tie as tie
@@ -18,9 +16,8 @@ has-block-requires c κs = search needs
 
 returns : tie.Need-returns
 returns c =
-    let s = c .before .before .before .args .site .now in
-    let b = partOf s 0 512 in
-    header-short b (c .before .before .before .args .blocks) (sym (c .before .has-block .ensures) ∙ not-true _ (c .if1 .taken))
+    let start = c .before .before .before .args in
+    header-short (partOf (start .site .now) 0 512) (start .blocks) (sym (c .before .has-block .ensures) ∙ not-true _ (c .if1 .taken))
 
 sub-sound : tie.Need-sub-sound
 sub-sound c = search needs
@@ -30,7 +27,8 @@ part-sound-start c = search needs
 
 part-sound-end : tie.Need-part-sound-end
 part-sound-end c =
-    let h = block-fits (c .before .before .before .args .site .now) 0 (sym (c .before .has-block .ensures) ∙ not-false _ (c .if1 .left)) in
+    let block = c .before in
+    let h = block-fits (block .before .before .args .site .now) 0 (sym (block .has-block .ensures) ∙ not-false _ (c .if1 .left)) in
     search needs
 
 sound-requires : tie.Need-sound-requires
@@ -38,23 +36,32 @@ sound-requires c κs = search needs
 
 returns-2 : tie.Need-returns-2
 returns-2 c =
-    let s = c .before .before .before .before .before .before .args .site .now in
-    let b = partOf s 0 512 in
-    let long : eqb (length b) 512 ≡ true = sym (c .before .before .before .before .has-block .ensures) ∙ not-false _ (c .before .before .before .if1 .left) in
-    header-check b (c .before .before .before .before .before .before .args .blocks) long (sound-here s 0 0 _ (c .before .sound .ensures) ∙ not-true _ (c .if2 .taken))
+    let sound = c .before in
+    let long = sound .before .before in
+    let block = long .before in
+    let start = block .before .before .args in
+    let s = start .site .now in
+    header-check (partOf s 0 512) (start .blocks) (sym (block .has-block .ensures) ∙ not-false _ (long .if1 .left))
+    (sound-here s 0 0 _ (sound .sound .ensures) ∙ not-true _ (c .if2 .taken))
 
 word-requires : tie.Need-word-requires
 word-requires c κs =
-    let h = block-fits (c .before .before .before .before .before .before .args .site .now) 0 (sym (c .before .before .before .before .has-block .ensures) ∙ not-false _ (c .before .before .before .if1 .left)) in
+    let long = c .before .before .before in
+    let block = long .before in
+    let h = block-fits (block .before .before .args .site .now) 0 (sym (block .has-block .ensures) ∙ not-false _ (long .if1 .left)) in
     omega arith
 
 returns-3 : tie.Need-returns-3
 returns-3 c =
-    let s = c .before .before .before .before .before .before .before .before .args .site .now in
-    let b = partOf s 0 512 in
-    let long : eqb (length b) 512 ≡ true = sym (c .before .before .before .before .before .before .has-block .ensures) ∙ not-false _ (c .before .before .before .before .before .if1 .left) in
-    let sound : soundAt b 0 ≡ true = sound-here s 0 0 _ (c .before .before .before .sound .ensures) ∙ not-false _ (c .before .before .if2 .left) in
-    header-kind b (c .before .before .before .before .before .before .before .before .args .blocks) long sound (kind-here s 0 1 _ false (c .before .word .ensures) (ne-eqb _ _ (c .if3 .taken)))
+    let word = c .before in
+    let whole = word .before in
+    let sound = whole .before in
+    let long = sound .before .before in
+    let block = long .before in
+    let start = block .before .before .args in
+    let s = start .site .now in
+    header-kind (partOf s 0 512) (start .blocks) (sym (block .has-block .ensures) ∙ not-false _ (long .if1 .left))
+    (sound-here s 0 0 _ (sound .sound .ensures) ∙ not-false _ (whole .if2 .left)) (kind-here s 0 1 _ false (word .word .ensures) (ne-eqb _ _ (c .if3 .taken)))
 
 sub-part : tie.Need-sub-part
 sub-part c = search needs
@@ -64,7 +71,9 @@ part-part-start c = search needs
 
 part-part-end : tie.Need-part-part-end
 part-part-end c =
-    let h = block-fits (c .before .before .before .before .before .before .before .before .args .site .now) 0 (sym (c .before .before .before .before .before .before .has-block .ensures) ∙ not-false _ (c .before .before .before .before .before .if1 .left)) in
+    let long = c .before .before .before .before .before in
+    let block = long .before in
+    let h = block-fits (block .before .before .args .site .now) 0 (sym (block .has-block .ensures) ∙ not-false _ (long .if1 .left)) in
     search needs
 
 get-header-requires : tie.Need-get-header-requires
@@ -81,57 +90,101 @@ both-requires c κs = search needs
 
 returns-4 : tie.Need-returns-4
 returns-4 c =
-    let s = c .before .before .before .before .before .before .before .before .before .before .before .before .before .before .before .args .site .now in
-    let b = partOf s 0 512 in
-    let long : eqb (length b) 512 ≡ true = sym (c .before .before .before .before .before .before .before .before .before .before .before .before .before .has-block .ensures) ∙ not-false _ (c .before .before .before .before .before .before .before .before .before .before .before .before .if1 .left) in
-    let sound : soundAt b 0 ≡ true = sound-here s 0 0 _ (c .before .before .before .before .before .before .before .before .before .before .sound .ensures) ∙ not-false _ (c .before .before .before .before .before .before .before .before .before .if2 .left) in
-    let p : Passed b 0 1 = record { long = long; sound = sound; first = kind-here s 0 1 _ true (c .before .before .before .before .before .before .before .before .word .ensures) (eq-eqb _ _ (c .before .before .before .before .before .before .before .if3 .left)) } in
-    let h = c .before .before .before .before .before .get-header .result in
-    let is = header-here s h (c .before .before .before .before .before .get-header .ensures) in
-    let good = header-fields-here s h _ _ _ (c .before .both .ensures) (c .before .before .before .scenario-fits .ensures) (c .before .before .header-unused .ensures) in
-    header-field b (c .before .before .before .before .before .before .before .before .before .before .before .before .before .before .before .args .blocks) p h is (sym good ∙ not-true _ (c .if4 .taken))
+    let fields = c .before in
+    let unused = fields .before in
+    let fits = unused .before in
+    let read = fits .before .before in
+    let kind = read .before .before in
+    let word = kind .before in
+    let whole = word .before in
+    let sound = whole .before in
+    let long = sound .before .before in
+    let block = long .before in
+    let start = block .before .before .args in
+    let s = start .site .now in
+    let p = passed-here s 0 (block .has-block .ensures) (long .if1 .left) (sound .sound .ensures) (whole .if2 .left) (word .word .ensures) (kind .if3 .left) in
+    let h = read .get-header .result in
+    let is = header-here s h (read .get-header .ensures) in
+    let good = header-fields-here s h _ _ _ (fields .both .ensures) (fits .scenario-fits .ensures) (unused .header-unused .ensures) in
+    header-field (partOf s 0 512) (start .blocks) p h is (sym good ∙ not-true _ (c .if4 .taken))
 
 count-ok-requires : tie.Need-count-ok-requires
 count-ok-requires c κs = search needs
 
 returns-5 : tie.Need-returns-5
 returns-5 c =
-    let s = c .before .before .before .before .before .before .before .before .before .before .before .before .before .before .before .before .before .args .site .now in
-    let b = partOf s 0 512 in
-    let long : eqb (length b) 512 ≡ true = sym (c .before .before .before .before .before .before .before .before .before .before .before .before .before .before .before .has-block .ensures) ∙ not-false _ (c .before .before .before .before .before .before .before .before .before .before .before .before .before .before .if1 .left) in
-    let sound : soundAt b 0 ≡ true = sound-here s 0 0 _ (c .before .before .before .before .before .before .before .before .before .before .before .before .sound .ensures) ∙ not-false _ (c .before .before .before .before .before .before .before .before .before .before .before .if2 .left) in
-    let p : Passed b 0 1 = record { long = long; sound = sound; first = kind-here s 0 1 _ true (c .before .before .before .before .before .before .before .before .before .before .word .ensures) (eq-eqb _ _ (c .before .before .before .before .before .before .before .before .before .if3 .left)) } in
-    let h = c .before .before .before .before .before .before .before .get-header .result in
-    let is = header-here s h (c .before .before .before .before .before .before .before .get-header .ensures) in
-    let good = header-fields-here s h _ _ _ (c .before .before .before .both .ensures) (c .before .before .before .before .before .scenario-fits .ensures) (c .before .before .before .before .header-unused .ensures) in
-    header-count b (c .before .before .before .before .before .before .before .before .before .before .before .before .before .before .before .before .before .args .blocks) p h is (sym good ∙ not-false _ (c .before .before .if4 .left)) (sym (c .before .count-ok .ensures) ∙ not-true _ (c .if5 .taken))
+    let count = c .before in
+    let right = count .before in
+    let fields = right .before in
+    let unused = fields .before in
+    let fits = unused .before in
+    let read = fits .before .before in
+    let kind = read .before .before in
+    let word = kind .before in
+    let whole = word .before in
+    let sound = whole .before in
+    let long = sound .before .before in
+    let block = long .before in
+    let start = block .before .before .args in
+    let s = start .site .now in
+    let p = passed-here s 0 (block .has-block .ensures) (long .if1 .left) (sound .sound .ensures) (whole .if2 .left) (word .word .ensures) (kind .if3 .left) in
+    let h = read .get-header .result in
+    let is = header-here s h (read .get-header .ensures) in
+    let good = header-fields-here s h _ _ _ (fields .both .ensures) (fits .scenario-fits .ensures) (unused .header-unused .ensures) in
+    header-count (partOf s 0 512) (start .blocks) p h is (sym good ∙ not-false _ (right .if4 .left)) (sym (count .count-ok .ensures) ∙ not-true _ (c .if5 .taken))
 
 lacks-factor-requires : tie.Need-lacks-factor-requires
 lacks-factor-requires c κs = search needs
 
 returns-6 : tie.Need-returns-6
 returns-6 c =
-    let s = c .before .before .before .before .before .before .before .before .before .before .before .before .before .before .before .before .before .before .before .args .site .now in
-    let b = partOf s 0 512 in
-    let long : eqb (length b) 512 ≡ true = sym (c .before .before .before .before .before .before .before .before .before .before .before .before .before .before .before .before .before .has-block .ensures) ∙ not-false _ (c .before .before .before .before .before .before .before .before .before .before .before .before .before .before .before .before .if1 .left) in
-    let sound : soundAt b 0 ≡ true = sound-here s 0 0 _ (c .before .before .before .before .before .before .before .before .before .before .before .before .before .before .sound .ensures) ∙ not-false _ (c .before .before .before .before .before .before .before .before .before .before .before .before .before .if2 .left) in
-    let p : Passed b 0 1 = record { long = long; sound = sound; first = kind-here s 0 1 _ true (c .before .before .before .before .before .before .before .before .before .before .before .before .word .ensures) (eq-eqb _ _ (c .before .before .before .before .before .before .before .before .before .before .before .if3 .left)) } in
-    let h = c .before .before .before .before .before .before .before .before .before .get-header .result in
-    let is = header-here s h (c .before .before .before .before .before .before .before .before .before .get-header .ensures) in
-    let good = header-fields-here s h _ _ _ (c .before .before .before .before .before .both .ensures) (c .before .before .before .before .before .before .before .scenario-fits .ensures) (c .before .before .before .before .before .before .header-unused .ensures) in
-    header-factor b (c .before .before .before .before .before .before .before .before .before .before .before .before .before .before .before .before .before .before .before .args .blocks) p h is (sym good ∙ not-false _ (c .before .before .before .before .if4 .left)) (sym (c .before .before .before .count-ok .ensures) ∙ not-false _ (c .before .before .if5 .left)) (sym (c .before .lacks-factor .ensures) ∙ c .if6 .taken)
+    let factors = c .before in
+    let counted = factors .before in
+    let count = counted .before in
+    let right = count .before in
+    let fields = right .before in
+    let unused = fields .before in
+    let fits = unused .before in
+    let read = fits .before .before in
+    let kind = read .before .before in
+    let word = kind .before in
+    let whole = word .before in
+    let sound = whole .before in
+    let long = sound .before .before in
+    let block = long .before in
+    let start = block .before .before .args in
+    let s = start .site .now in
+    let p = passed-here s 0 (block .has-block .ensures) (long .if1 .left) (sound .sound .ensures) (whole .if2 .left) (word .word .ensures) (kind .if3 .left) in
+    let h = read .get-header .result in
+    let is = header-here s h (read .get-header .ensures) in
+    let good = header-fields-here s h _ _ _ (fields .both .ensures) (fits .scenario-fits .ensures) (unused .header-unused .ensures) in
+    header-factor (partOf s 0 512) (start .blocks) p h is (sym good ∙ not-false _ (right .if4 .left)) (sym (count .count-ok .ensures) ∙ not-false _ (counted .if5 .left))
+    (sym (factors .lacks-factor .ensures) ∙ c .if6 .taken)
 
 returns-7 : tie.Need-returns-7
 returns-7 c =
-    let s = c .before .before .before .before .before .before .before .before .before .before .before .before .before .before .before .before .before .before .before .args .site .now in
-    let b = partOf s 0 512 in
-    let long : eqb (length b) 512 ≡ true = sym (c .before .before .before .before .before .before .before .before .before .before .before .before .before .before .before .before .before .has-block .ensures) ∙ not-false _ (c .before .before .before .before .before .before .before .before .before .before .before .before .before .before .before .before .if1 .left) in
-    let sound : soundAt b 0 ≡ true = sound-here s 0 0 _ (c .before .before .before .before .before .before .before .before .before .before .before .before .before .before .sound .ensures) ∙ not-false _ (c .before .before .before .before .before .before .before .before .before .before .before .before .before .if2 .left) in
-    let p : Passed b 0 1 = record { long = long; sound = sound; first = kind-here s 0 1 _ true (c .before .before .before .before .before .before .before .before .before .before .before .before .word .ensures) (eq-eqb _ _ (c .before .before .before .before .before .before .before .before .before .before .before .if3 .left)) } in
-    let h = c .before .before .before .before .before .before .before .before .before .get-header .result in
-    let is = header-here s h (c .before .before .before .before .before .before .before .before .before .get-header .ensures) in
-    let good = header-fields-here s h _ _ _ (c .before .before .before .before .before .both .ensures) (c .before .before .before .before .before .before .before .scenario-fits .ensures) (c .before .before .before .before .before .before .header-unused .ensures) in
-    header-found b (c .before .before .before .before .before .before .before .before .before .before .before .before .before .before .before .before .before .before .before .args .blocks) p h is (sym good ∙ not-false _ (c .before .before .before .before .if4 .left)) (sym (c .before .before .before .count-ok .ensures) ∙ not-false _ (c .before .before .if5 .left)) (sym (c .before .lacks-factor .ensures) ∙ c .if6 .left)
+    let factors = c .before in
+    let counted = factors .before in
+    let count = counted .before in
+    let right = count .before in
+    let fields = right .before in
+    let unused = fields .before in
+    let fits = unused .before in
+    let read = fits .before .before in
+    let kind = read .before .before in
+    let word = kind .before in
+    let whole = word .before in
+    let sound = whole .before in
+    let long = sound .before .before in
+    let block = long .before in
+    let start = block .before .before .args in
+    let s = start .site .now in
+    let p = passed-here s 0 (block .has-block .ensures) (long .if1 .left) (sound .sound .ensures) (whole .if2 .left) (word .word .ensures) (kind .if3 .left) in
+    let h = read .get-header .result in
+    let is = header-here s h (read .get-header .ensures) in
+    let good = header-fields-here s h _ _ _ (fields .both .ensures) (fits .scenario-fits .ensures) (unused .header-unused .ensures) in
+    header-found (partOf s 0 512) (start .blocks) p h is (sym good ∙ not-false _ (right .if4 .left)) (sym (count .count-ok .ensures) ∙ not-false _ (counted .if5 .left))
+    (sym (factors .lacks-factor .ensures) ∙ c .if6 .left)
 
 pub read-header-spec : {M : Type 1} → statement M
 read-header-spec =
