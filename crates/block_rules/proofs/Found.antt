@@ -21,7 +21,8 @@ use Rattle.block_rules.specs.declared.HeaderRead.the-variants as H
 use Rattle.block_rules.specs.declared.ContaminantRead.{ContaminantRead}
 use Rattle.block_rules.specs.declared.ContaminantRead.the-variants as C
 use Rattle.block_rules.specs.Rules.{countOk}
-use Rattle.block_rules.specs.Reading.{scenarioAt, headerAt, headerUnused, contaminantAt, contaminantUnused, soundAt, headerRead, contaminantRead, headerNumber, headerValue, contaminantNumber, contaminantValue}
+use Rattle.block_rules.specs.Reading.{scenarioAt, headerAt, headerUnused, contaminantAt, contaminantUnused, soundAt}
+use Rattle.block_rules.specs.Reading.{headerRead, contaminantRead, headerNumber, headerValue, contaminantNumber, contaminantValue}
 
 -- where a test's answer is not what was sent back, the test was false
 pub passed : {A : Type 0} (t : Bool) (x y z : A) → (x ≡ z → ⊥) → cond t x y ≡ z → (t ≡ false) × (y ≡ z)

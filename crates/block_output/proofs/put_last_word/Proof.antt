@@ -24,9 +24,13 @@ same-length c = search needs
 returns : tie.Need-returns
 unfolding lastWord
 returns c =
-    c .before .before .put .ensures ∙ ap (λ (n : ℕ). placed (c .before .before .before .before .before .before .before .before .args .out .now) 508 (le4 n))
-    (negate (c .before .before .before .wrapping-sub-u32 .result) (c .before .before .before .before .before .sum .result) (omega arith) (omega arith) (c .before .before .before .wrapping-sub-u32 .ensures)
-    ∙ ap (λ (n : ℕ). (4294967296 - n) % 4294967296) (c .before .before .before .before .before .sum .ensures))
+    let put = c .before .before in
+    let less = put .before in
+    let sum = less .before .before in
+    let l = sum .before .before .before .args .out .now in
+    put .put .ensures ∙ ap (λ (n : ℕ). placed l 508 (le4 n))
+    (negate (less .wrapping-sub-u32 .result) (sum .sum .result) (omega arith) (omega arith) (less .wrapping-sub-u32 .ensures)
+    ∙ ap (λ (n : ℕ). (4294967296 - n) % 4294967296) (sum .sum .ensures))
 
 pub put-last-word-spec : {M : Type 1} → statement M
 put-last-word-spec =

@@ -32,13 +32,18 @@ same-length c = search needs
 returns : tie.Need-returns
 unfolding field
 returns c =
-    let l = c .before .before .before .before .before .before .before .before .before .before .before .args .out .now in
-    let at = c .before .before .before .before .before .before .before .before .before .before .before .args .at in
-    let d = c .before .before .before .before .before .before .before .before .before .before .before .args .d in
-    let e : c .before .before .before .code .result ≡ codeOf (d .e) = c .before .before .before .code .ensures ∙ ap codeOf (toZ-ofZ {w = w32} {z = d .e} (search needs)) in
+    let second = c .before .before in
+    let code = second .before in
+    let first = code .before .before .before .before .before in
+    let start = first .before .before .before .args in
+    let l = start .out .now in
+    let at = start .at in
+    let d = start .d in
+    let k = code .code .result in
+    let e : k ≡ codeOf (d .e) = code .code .ensures ∙ ap codeOf (toZ-ofZ {w = w32} {z = d .e} (search needs)) in
     let w = ap le4 e ∙ le4-code (codeOf (d .e)) (code-lt (d .e)) in
-    let first : Placed (c .before .before .before .before .before .before .before .before .put .last .0) l (le4 (d .m)) at (at + 4) = record { now = c .before .before .before .before .before .before .before .before .put .ensures; end = ap (λ (n : ℕ). at + n) (le4-length (d .m)); room = omega arith } in
-    placed-next (c .before .before .put2 .last .0) (le4 (c .before .before .before .code .result)) (at + 8) first (c .before .before .put2 .ensures) (omega (arith, le4-length (c .before .before .before .code .result))) .now
+    let m : Placed (first .put .last .0) l (le4 (d .m)) at (at + 4) = record { now = first .put .ensures; end = ap (λ (n : ℕ). at + n) (le4-length (d .m)); room = omega arith } in
+    placed-next (second .put2 .last .0) (le4 k) (at + 8) m (second .put2 .ensures) (omega (arith, le4-length k)) .now
     ∙ ap (λ (t : List ℕ). placed l at (le4 (d .m) ++ t)) w
 
 pub put-spec : {M : Type 1} → statement M

@@ -46,20 +46,28 @@ loop-less c = search needs
 
 loop-again : tie.Need-loop-again Inv-loop μ-loop
 loop-again c =
-    let s = c .before .before .before .before .before .args .s .now in
-    let at = c .before .before .before .before .before .args .at in
-    let i = c .before .before .before .loop .i in
-    let test : c .both .result ≡ c .before .before .before .loop .ok && eqb (halfAt s (at + 8 * i + 6)) 0 = c .both .ensures ∙ ap (λ (h : ℕ). c .before .before .before .loop .ok && eqb h 0) (c .before .half .ensures .0) in (
+    let half = c .before in
+    let at-loop = half .before .before in
+    let start = at-loop .before .before .args in
+    let s = start .s .now in
+    let at = start .at in
+    let n = start .n in
+    let i = at-loop .loop .i in
+    let ok = at-loop .loop .ok in
+    let test : c .both .result ≡ ok && eqb (halfAt s (at + 8 * i + 6)) 0 = c .both .ensures ∙ ap (λ (h : ℕ). ok && eqb h 0) (half .half .ensures .0) in (
       omega arith,
-      ap (λ (b : Bool). b && unusedZero s (at + 8 * (i + 1)) (c .before .before .before .before .before .args .n - (i + 1))) test
-          ∙ unused-step s at (c .before .before .before .before .before .args .n) i (c .before .before .before .loop .ok) (omega arith) ∙ c .before .before .before .loop .inv .1,
+      ap (λ (b : Bool). b && unusedZero s (at + 8 * (i + 1)) (n - (i + 1))) test ∙ unused-step s at n i ok (omega arith) ∙ at-loop .loop .inv .1,
     )
 
 returns : tie.Need-returns Inv-loop μ-loop
 unfolding unusedZero
 returns c =
-    let left : c .before .before .before .args .n - c .before .loop .i ≡ 0 = omega arith in
-    sym (and-true (c .before .loop .ok)) ∙ ap (λ (k : ℕ). c .before .loop .ok && unusedZero (c .before .before .before .args .s .now) (c .before .before .before .args .at + 8 * c .before .loop .i) k) (sym left) ∙ c .before .loop .inv .1
+    let at-loop = c .before in
+    let start = at-loop .before .before .args in
+    let i = at-loop .loop .i in
+    let ok = at-loop .loop .ok in
+    let left : start .n - i ≡ 0 = omega arith in
+    sym (and-true ok) ∙ ap (λ (k : ℕ). ok && unusedZero (start .s .now) (start .at + 8 * i) k) (sym left) ∙ at-loop .loop .inv .1
 
 pub unused-zero-spec : {M : Type 1} → statement M
 unused-zero-spec =

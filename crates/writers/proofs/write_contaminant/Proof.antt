@@ -46,7 +46,8 @@ returns-2 c =
     let accepted = tested .before in
     let sent = accepted .before in
     let a = sent .before .before .args in
-    sent-written (contaminantBlock (a .place) (a .r)) (a .out .now) (sent .contaminant-refusal .ensures) (sym (accepted .accepted .ensures) ∙ not-false _ (tested .if1 .left)) (put .put-contaminant .ensures)
+    let none = sym (accepted .accepted .ensures) ∙ not-false _ (tested .if1 .left) in
+    sent-written (contaminantBlock (a .place) (a .r)) (a .out .now) (sent .contaminant-refusal .ensures) none (put .put-contaminant .ensures)
 
 pub write-contaminant-spec : {M : Type 1} → statement M
 write-contaminant-spec =
