@@ -1,11 +1,10 @@
 -- One block of the writing walk: its columns are the guidelines of the single guideline, and its shares make the next sums. Assumes nothing.
 use mathlib.Core.Path.{_≡_, sym, ap, subst, _∙_}
-use mathlib.Core.Bool.{false, _&&_}
 use mathlib.Core.List.{List}
 use Prim.Native.Nat.{ℕ, _+_, _*_, _-_, _≤_}
-use lib.Dec.{eqb}
 use lib.ListN.{take, drop}
-use borrow.Author.Tests.{not-true}
+use borrow.Author.Tests.{eq-eqb}
+use Rattle.outcome.specs.Outcome.{numberOf}
 use Rattle.inputs.specs.declared.Scenario.{Scenario}
 use Rattle.inputs.specs.declared.Contaminant.{Contaminant}
 use Rattle.block_rules.specs.Reading.{contaminantAt}
@@ -16,14 +15,15 @@ use Rattle.block_rules.specs.Layouts.{resultBlock}
 use Rattle.terms.specs.Side.{Wide, WideSide}
 use Rattle.guideline.specs.declared.Column.{Column}
 use Rattle.guideline.specs.Column.{ColumnFor, PrintableColumn, columnDecimals}
+use Rattle.inputs.specs.Rules.{scenarioRefusal, mostContaminants}
+use Rattle.inputs.specs.Limits.{shareWidth}
+use Rattle.guideline_rules.specs.Pathway.{recordRefusal}
 use Rattle.guideline_rules.specs.Guideline.{guidelineOf, accepted}
 use Rattle.guideline.proofs.ColumnBounds.{column-printable}
-use Rattle.guideline.proofs.Steps.{Terms-of, Columns-of, wide, risk-column, hazard-column, any-risk, any-hazard, accepted-out}
-use Rattle.guideline_rules.proofs.WorkedOut.{either}
+use Rattle.guideline.proofs.Steps.{Terms-of, Columns-of, wide, risk-column, hazard-column, accepted-out}
 use Rattle.shares.specs.declared.Plan.{Plan}
 use Rattle.shares.specs.declared.Worked.{Worked}
 use Rattle.shares.specs.declared.Runs.{Runs}
-use Rattle.sum_rules.specs.Share.{hasPathway}
 use Rattle.shares.specs.Plan.{PlanReady, PlanFits, Workable, WorkedFor, Addable, Added}
 use Rattle.sums.specs.State.{RunsReady}
 use Rattle.shares.proofs.Plans.{inputs-of}
@@ -34,7 +34,8 @@ use Rattle.site_rules.specs.Passed.{RecordOk}
 use Rattle.sums.specs.State.{NextRuns}
 
 -- the contaminant that is read from the middle of a block is its record
-pub read-is : (site : List ℕ) (place : ℕ) (r : Contaminant) → r ≡ contaminantAt (take (512 * place + 508 - (512 * place + 4)) (drop (512 * place + 4) site)) 4 → r ≡ recordAt site place
+pub read-is : (site : List ℕ) (place : ℕ) (r : Contaminant) →
+    r ≡ contaminantAt (take (512 * place + 508 - (512 * place + 4)) (drop (512 * place + 4) site)) 4 → r ≡ recordAt site place
 unfolding recordAt blockAt
 read-is site place r e = contaminant-here site (512 * place) r e
 
@@ -43,8 +44,8 @@ pub read-ok : {s : Scenario} {medium : ℕ} (site : List ℕ) (place : ℕ) {r :
 read-ok {s} {medium} site place {r} ok e = subst (RecordOk s medium) (sym (read-is site place r e)) ok
 
 -- the result block of a place, from its guidelines
-pub block-is : (s : Scenario) (medium : ℕ) (site : List ℕ) (place : ℕ) (r : Contaminant) (a b : SideGuidelines) → r ≡ recordAt site place → guidelineOf s medium r ≡ accepted a b →
-    resultBlock place (r .class) (r .id) a b ≡ resultAt s medium site place
+pub block-is : (s : Scenario) (medium : ℕ) (site : List ℕ) (place : ℕ) (r : Contaminant) (a b : SideGuidelines) → r ≡ recordAt site place →
+    guidelineOf s medium r ≡ accepted a b → resultBlock place (r .class) (r .id) a b ≡ resultAt s medium site place
 unfolding resultAt
 block-is s medium site place r a b e g =
     ap (λ (z : GuidelineAnswer). resultBlock place (r .class) (r .id) (z .risk) (z .hazard)) (sym g) ∙
@@ -70,18 +71,16 @@ module _ {p : Plan} {r : Contaminant} {w : Worked} (ready : PlanReady p) (passed
     pub hazard-printable : PrintableColumn y
     hazard-printable = column-printable (hazard-column columns-of)
 
-    some-sum : eqb (x .sum .m) 0 && eqb (y .sum .m) 0 ≡ false
-    unfolding hasPathway
-    some-sum = not-true _ (sym (either (eqb (x .sum .m) 0) (eqb (y .sum .m) 0)) ∙ rw (any-risk columns-of, any-hazard columns-of) (ok .pathway))
-
     -- the decimals of the block are those of the single guideline
     pub guideline-is : guidelineOf (p .scenario) (p .medium) r ≡ accepted (columnDecimals x) (columnDecimals y)
-    unfolding guidelineOf
-    guideline-is = rw (passed .fits, passed .known, ok .fits) (accepted-out columns-of some-sum)
+    unfolding guidelineOf scenarioRefusal
+    guideline-is =
+        let own = recordRefusal (p .scenario) (p .medium) r in
+        rw (passed .fits, passed .known, ok .fits, eq-eqb (numberOf own) 0 (ok .passed)) (accepted-out columns-of)
 
     -- and its shares can be added
-    pub shares-fit : {n : ℕ} {z : Runs} → n ≤ 121 → RunsReady (632 + n) z → Addable z w (x .sum) (y .sum)
+    pub shares-fit : {n : ℕ} {z : Runs} → n ≤ mostContaminants + 1 → RunsReady (shareWidth + n) z → Addable z w (x .sum) (y .sum)
     shares-fit l g = addable can k (u .sum) (v .sum) l g (u .size) (v .size)
 
-    pub one-more : {n : ℕ} {z z′ : Runs} → n ≤ 121 → RunsReady (632 + n) z → Added z w (x .sum) (y .sum) z′ → NextRuns p r n z z′
+    pub one-more : {n : ℕ} {z z′ : Runs} → n ≤ mostContaminants + 1 → RunsReady (shareWidth + n) z → Added z w (x .sum) (y .sum) z′ → NextRuns p r n z z′
     one-more l g e = next-runs can k (u .sum) (v .sum) l g e

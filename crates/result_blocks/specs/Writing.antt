@@ -6,6 +6,8 @@ use lib.ListN.{length}
 use Rattle.block_rules.specs.Rules.{blockSize}
 use Rattle.inputs.specs.declared.Scenario.{Scenario}
 use Rattle.inputs.specs.Rules.{mostContaminants}
+use Rattle.inputs.specs.Limits.{shareWidth}
+use Rattle.formulas.specs.Side.{Risk, Hazard}
 use Rattle.shares.specs.declared.Plan.{Plan}
 use Rattle.shares.specs.declared.Runs.{Runs}
 use Rattle.sum_rules.specs.declared.SumsAnswer.{SumsAnswer}
@@ -32,14 +34,14 @@ pub record WritingOne (p : Plan) (site : List ℕ) (place : ℕ) (x : Runs) : Ty
   pub long : blockSize * place + blockSize ≤ length site
   pub most : place ≤ mostContaminants
   pub ok : RecordOk (p .scenario) (p .medium) (recordAt site place)
-  pub runs : RunsReady (632 + place) x
+  pub runs : RunsReady (shareWidth + place) x
 
 -- ---- what they promise
 -- the sums over all records
 pub record AllAdded (p : Plan) (site : List ℕ) (count : ℕ) (y : Runs) : Type 0 where
-  pub ready : RunsReady (632 + (count + 1)) y
-  pub risk : runningOf (y .risk) ≡ runAll (p .scenario) (p .medium) 0 start (recordsFrom site count 1)
-  pub hazard : runningOf (y .hazard) ≡ runAll (p .scenario) (p .medium) 1 start (recordsFrom site count 1)
+  pub ready : RunsReady (shareWidth + (count + 1)) y
+  pub risk : runningOf (y .risk) ≡ runAll (p .scenario) (p .medium) Risk start (recordsFrom site count 1)
+  pub hazard : runningOf (y .hazard) ≡ runAll (p .scenario) (p .medium) Hazard start (recordsFrom site count 1)
 
 -- the summary and the result blocks
 abbrev pub blocksOf : Scenario → ℕ → List ℕ → ℕ → SumsAnswer → List ℕ

@@ -37,8 +37,11 @@ part-get-contaminant-end c = omega (arith, c .before .before .pre .0 .long)
 
 get-contaminant-requires : tie.Need-get-contaminant-requires
 get-contaminant-requires c κs =
-    let n : length (take (512 * c .before .before .before .args .place + 508 - (512 * c .before .before .before .args .place + 4)) (drop (512 * c .before .before .before .args .place + 4) (c .before .before .before .args .site .now))) ≡ 512 * c .before .before .before .args .place + 508 - (512 * c .before .before .before .args .place + 4) = length-take-le _ (drop (512 * c .before .before .before .args .place + 4) (c .before .before .before .args .site .now)) (simp length-drop (omega (arith, c .before .before .before .pre .0 .long))) in
-    (omega arith, omega (arith, n))
+    let start = c .before .before .before in
+    let at = 512 * start .args .place in
+    let rest = drop (at + 4) (start .args .site .now) in
+    let n : length (take (at + 508 - (at + 4)) rest) ≡ at + 508 - (at + 4) = length-take-le _ rest (simp length-drop (omega (arith, start .pre .0 .long))) in
+    omega (arith, n)
 
 work-requires : tie.Need-work-requires
 work-requires c κs = record { ready = c .before .before .before .before .pre .0 .ready; passed = c .before .before .before .before .pre .0 .passed; contaminant = read-ok (c .before .before .before .before .args .site .now) (c .before .before .before .before .args .place) (c .before .before .before .before .pre .0 .ok) (c .get-contaminant .ensures) .fits }
