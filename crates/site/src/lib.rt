@@ -28,8 +28,8 @@ fn length_ok(n: usize) -> bool
     inputs::both(enough, n % BLOCK_SIZE == 0)
 }
 
-// The first refusal of the contaminant blocks, in their order. Refusal 8 depends on zero fields only, so no term is
-// worked out before the whole site is checked.
+// The first refusal of the contaminant blocks, in their order. The tests of a record look at its fields only, so no term
+// is worked out before the whole site is checked.
 fn check_blocks(site: &[u8], s: Scenario, medium: u32, count: u32) -> Answer
     requires { ⌜ Checking s medium (now site) count ⌝ }
     ensures { λ c. ⌜ c ≡ checkBlocks s medium (now (site .entry)) count 1 0 ⌝ }
@@ -47,9 +47,10 @@ fn check_blocks(site: &[u8], s: Scenario, medium: u32, count: u32) -> Answer
                 };
             }
             ContaminantRead::Found(r) => {
-                if !presence::has_pathway(s, medium, r) {
+                let own = presence::record_refusal(s, medium, r);
+                if !outcome::accepted(own) {
                     return Answer {
-                        refusal: Refusal::Pathway,
+                        refusal: own,
                         block: place,
                     };
                 }

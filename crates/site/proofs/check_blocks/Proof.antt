@@ -6,7 +6,7 @@ use borrow.Author.Tests.{not-true, not-false}
 use Rattle.site_rules.specs.Blocks.{blockAt}
 use Rattle.site.specs.Check.{checkBlocks}
 use Rattle.site_rules.proofs.Opened.{found-record}
-use Rattle.site.proofs.Turns.{turn-refused, turn-pathway, turn-next, check-none}
+use Rattle.site.proofs.Turns.{turn-refused, turn-record, turn-next, check-none}
 use borrow.Author.Needs.{needs}
 use Rattle.site.proofs.check_blocks.Statement.{statement}
 use Rattle.site.proofs.check_blocks.Tie as tie
@@ -19,8 +19,9 @@ abbrev μ-loop : tie.MeasureT-loop
 
 loop-holds : tie.Need-loop-holds Inv-loop μ-loop
 loop-holds c =
-    let z : c .before .args .count - 0 ≡ c .before .args .count = omega arith in
-    (omega arith, ap (λ (j : ℕ). checkBlocks (c .before .args .s) (c .before .args .medium) (c .before .args .site .now) j 1 0) z)
+    let a = c .before .args in
+    let z : a .count - 0 ≡ a .count = omega arith in
+    (omega arith, ap (λ (j : ℕ). checkBlocks (a .s) (a .medium) (a .site .now) j 1 0) z)
 
 add-place : tie.Need-add-place Inv-loop μ-loop
 add-place c = omega (arith, c .loop-test .taken, c .before .before .before .pre .most)
@@ -39,31 +40,101 @@ enum-known-m c = search needs
 
 returns : tie.Need-returns Inv-loop μ-loop
 unfolding blockAt
-returns c = sym (turn-refused (c .before .before .before .before .before .before .before .args .s) (c .before .before .before .before .before .before .before .args .medium) (c .before .before .before .before .before .before .before .args .site .now) (c .before .before .before .before .before .before .before .args .count) (c .before .before .before .before .before .loop .k) (c .before .before .before .before .before .loop .previous) (c .before .before .before .before .loop-test .taken) (c .before .m .given .0 .0) (sym (c .before .before .before .read-contaminant .ensures) ∙ c .before .m .given .1)) ∙ c .before .before .before .before .before .loop .inv .1
+returns c =
+    let told = c .before in
+    let read = told .before .before in
+    let inside = read .before in
+    let at = inside .before in
+    let a = at .before .before .args in
+    let found = sym (read .read-contaminant .ensures) ∙ told .m .given .1 in
+    sym (turn-refused (a .s) (a .medium) (a .site .now) (a .count) (at .loop .k) (at .loop .previous) (inside .loop-test .taken) (told .m .given .0 .0) found) ∙
+    at .loop .inv .1
 
 enum-known-r : tie.Need-enum-known-r Inv-loop μ-loop
 enum-known-r c = search needs
 
-has-pathway-requires : tie.Need-has-pathway-requires Inv-loop μ-loop
+record-refusal-requires : tie.Need-record-refusal-requires Inv-loop μ-loop
 unfolding blockAt
-has-pathway-requires c κs = record { scenario = c .before .before .before .before .before .before .before .pre .fits; factors = c .before .before .before .before .before .before .before .pre .known; contaminant = found-record (c .before .before .before .before .before .before .before .args .site .now) (c .before .before .before .before .before .loop .k + 1) (c .before .before .before .before .before .loop .previous) (c .before .r .given .0 .0) (sym (c .before .before .before .read-contaminant .ensures) ∙ c .before .r .given .1) .valid }
+record-refusal-requires c κs =
+    let told = c .before in
+    let read = told .before .before in
+    let at = read .before .before in
+    let start = at .before .before in
+    let found = sym (read .read-contaminant .ensures) ∙ told .r .given .1 in
+    record {
+      scenario = start .pre .fits;
+      factors = start .pre .known;
+      contaminant = found-record (start .args .site .now) (at .loop .k + 1) (at .loop .previous) (told .r .given .0 .0) found .valid;
+    }
+
+accepted-requires : tie.Need-accepted-requires Inv-loop μ-loop
+accepted-requires c κs = search needs
 
 returns-2 : tie.Need-returns-2 Inv-loop μ-loop
 unfolding blockAt
-returns-2 c = sym (turn-pathway (c .before .before .before .before .before .before .before .before .before .args .s) (c .before .before .before .before .before .before .before .before .before .args .medium) (c .before .before .before .before .before .before .before .before .before .args .site .now) (c .before .before .before .before .before .before .before .before .before .args .count) (c .before .before .before .before .before .before .before .loop .k) (c .before .before .before .before .before .before .before .loop .previous) (c .before .before .before .before .before .before .loop-test .taken) (c .before .before .before .r .given .0 .0) (sym (c .before .before .before .before .before .read-contaminant .ensures) ∙ c .before .before .before .r .given .1) (sym (c .before .has-pathway .ensures) ∙ not-true _ (c .if1 .taken))) ∙ c .before .before .before .before .before .before .before .loop .inv .1
+returns-2 c =
+    let tested = c .before in
+    let own = tested .before in
+    let told = own .before .before in
+    let read = told .before .before in
+    let inside = read .before in
+    let at = inside .before in
+    let a = at .before .before .args in
+    let found = sym (read .read-contaminant .ensures) ∙ told .r .given .1 in
+    let refused = sym (tested .accepted .ensures) ∙ not-true _ (c .if1 .taken) in
+    sym (turn-record (a .s) (a .medium) (a .site .now) (a .count) (at .loop .k) (at .loop .previous) (inside .loop-test .taken) (told .r .given .0 .0) found
+    (own .record-refusal .result) (own .record-refusal .ensures) refused) ∙ at .loop .inv .1
 
 add-k : tie.Need-add-k Inv-loop μ-loop
-add-k c = omega (arith, c .before .before .before .before .before .before .loop-test .taken, c .before .before .before .before .before .before .before .before .before .pre .most)
+add-k c =
+    let told = c .before .before .before .before in
+    let inside = told .before .before .before in
+    omega (arith, inside .loop-test .taken, inside .before .before .before .pre .most)
 
 loop-less : tie.Need-loop-less Inv-loop μ-loop
-loop-less c = omega (arith, c .before .before .before .before .before .before .loop-test .taken)
+loop-less c = let told = c .before .before .before .before in omega (arith, told .before .before .before .loop-test .taken)
 
 loop-again : tie.Need-loop-again Inv-loop μ-loop
 unfolding blockAt
-loop-again c = (omega (arith, c .before .before .before .before .before .before .loop-test .taken), sym (turn-next (c .before .before .before .before .before .before .before .before .before .args .s) (c .before .before .before .before .before .before .before .before .before .args .medium) (c .before .before .before .before .before .before .before .before .before .args .site .now) (c .before .before .before .before .before .before .before .before .before .args .count) (c .before .before .before .before .before .before .before .loop .k) (c .before .before .before .before .before .before .before .loop .previous) (c .before .before .before .before .before .before .loop-test .taken) (c .before .before .before .r .given .0 .0) (sym (c .before .before .before .before .before .read-contaminant .ensures) ∙ c .before .before .before .r .given .1) (sym (c .before .has-pathway .ensures) ∙ not-false _ (c .if1 .left))) ∙ c .before .before .before .before .before .before .before .loop .inv .1)
+loop-again c =
+    let tested = c .before in
+    let own = tested .before in
+    let told = own .before .before in
+    let read = told .before .before in
+    let inside = read .before in
+    let at = inside .before in
+    let a = at .before .before .args in
+    let found = sym (read .read-contaminant .ensures) ∙ told .r .given .1 in
+    let accepted = sym (tested .accepted .ensures) ∙ not-false _ (c .if1 .left) in (
+      omega (arith, inside .loop-test .taken),
+      sym (turn-next (a .s) (a .medium) (a .site .now) (a .count) (at .loop .k) (at .loop .previous) (inside .loop-test .taken) (told .r .given .0 .0) found
+          (own .record-refusal .result) (own .record-refusal .ensures) accepted) ∙ at .loop .inv .1,
+    )
 
 returns-3 : tie.Need-returns-3 Inv-loop μ-loop
-returns-3 c = sym (check-none (c .before .before .before .args .s) (c .before .before .before .args .medium) (c .before .before .before .args .site .now) (c .before .before .before .args .count) (c .before .loop .k) (c .before .loop .previous) (c .loop-test .left)) ∙ c .before .loop .inv .1
+returns-3 c =
+    let at = c .before in
+    let a = at .before .before .args in
+    sym (check-none (a .s) (a .medium) (a .site .now) (a .count) (at .loop .k) (at .loop .previous) (c .loop-test .left)) ∙ at .loop .inv .1
 
 pub check-blocks-spec : {M : Type 1} → statement M
-check-blocks-spec = tie.close (tie.spec Inv-loop μ-loop loop-holds add-place cast-at mul-at read-contaminant-requires enum-known-m returns enum-known-r has-pathway-requires returns-2 add-k loop-less loop-again returns-3)
+check-blocks-spec =
+    tie.close
+    (tie.spec
+    Inv-loop
+    μ-loop
+    loop-holds
+    add-place
+    cast-at
+    mul-at
+    read-contaminant-requires
+    enum-known-m
+    returns
+    enum-known-r
+    record-refusal-requires
+    accepted-requires
+    returns-2
+    add-k
+    loop-less
+    loop-again
+    returns-3)

@@ -6,7 +6,8 @@ use lib.ListN.{length}
 use borrow.Author.Tests.{not-true, not-false}
 use Rattle.block_rules.proofs.Found.{header-refused}
 use Rattle.site_rules.specs.Blocks.{blockAt}
-use Rattle.site_rules.proofs.Opened.{right-length, answer-length, answer-header, left-refused}
+use Rattle.site_rules.proofs.RightLength.{right-length}
+use Rattle.site_rules.proofs.Opened.{answer-length, answer-header, left-refused}
 use borrow.Author.Needs.{needs}
 use Rattle.site.proofs.evaluate.Statement.{statement}
 use Rattle.site.proofs.evaluate.Tie as tie
