@@ -1,21 +1,18 @@
 -- The parts of an answer come back out of the word that the C library returns. Assumes nothing.
-use mathlib.Core.Path.{_≡_, refl}
-use mathlib.Core.Bool.{Bool, true, false, cond, _&&_, _||_}
+use mathlib.Core.Bool.{Bool, true, false, cond, _&&_}
 use mathlib.Core.List.{List}
 use Prim.Native.Nat.{ℕ, _≤_}
 use native.Mathlib.Omega.{arith}
 use lib.Dec.{eqb, ltb}
-use Rattle.rounding.specs.declared.Direction.the-variants.{Up}
-use Rattle.decimal.specs.declared.Decimal.{Decimal}
 use Rattle.outcome.specs.Outcome.{numberOf}
-use Rattle.outcome.specs.declared.Refusal.the-variants.{Field, Factor, Pathway, Range, Room}
+use Rattle.outcome.specs.declared.Refusal.the-variants.{Field, Range, Room}
 use Rattle.inputs.specs.declared.Scenario.{Scenario}
 use Rattle.inputs.specs.declared.Contaminant.{Contaminant}
-use Rattle.inputs.specs.Rules.{scenarioFits, lacksFactor, contaminantFits}
-use Rattle.formulas.specs.Formula.{Formula, TR, THI, pathwaysOf}
-use Rattle.formulas.specs.Term.{look, inputsOf, valuesOf}
+use Rattle.inputs.specs.Rules.{scenarioRefusal, contaminantFits}
+use Rattle.formulas.specs.Side.{Risk, Hazard}
 use Rattle.guideline_rules.specs.declared.GuidelineAnswer.{GuidelineAnswer}
-use Rattle.guideline_rules.specs.Guideline.{sideOf, sideDecimals, anyPathway, allRanged, refused, accepted, workedOut, guidelineOf}
+use Rattle.guideline_rules.specs.Pathway.{recordRefusal}
+use Rattle.guideline_rules.specs.Guideline.{guidelineRanged, refused, workedOut, guidelineOf}
 use Rattle.sum_rules.specs.Verdict.{verdictNumber}
 use Rattle.sum_rules.proofs.AnswerBounds.{number-most}
 use Rattle.site_rules.specs.Site.{siteAnswer}
@@ -38,40 +35,28 @@ site-word site out =
     (omega (arith, b .number)) (omega (arith, b .block)) (omega (arith, b .risk)) (omega (arith, b .hazard))
 
 -- ---- the single guideline: block 0 or 1
-worked-block : (vs : List Decimal) (risk hazard : List Formula) → workedOut vs risk hazard .block ≤ 1
+either-block : (t : Bool) (x y : GuidelineAnswer) → x .block ≤ 1 → y .block ≤ 1 → cond t x y .block ≤ 1
+either-block true x y h k = h
+either-block false x y h k = k
+
+worked-block : (s : Scenario) (medium : ℕ) (r : Contaminant) → workedOut s medium r .block ≤ 1
 unfolding workedOut
-worked-block vs risk hazard = cases (anyPathway vs risk || anyPathway vs hazard) (allRanged (sideDecimals vs (look vs TR) risk) && allRanged (sideDecimals vs (look vs THI) hazard))
-  where
-    cases : (a b : Bool) → cond a (cond b (accepted (sideOf vs (look vs TR) risk) (sideOf vs (look vs THI) hazard)) (refused Range 1)) (refused Pathway 1) .block ≤ 1
-    cases true true = omega arith
-    cases true false = omega arith
-    cases false b = omega arith
+worked-block s medium r = either-block (guidelineRanged s medium r Risk && guidelineRanged s medium r Hazard) _ (refused Range 1) (omega arith) (omega arith)
 
 guideline-block : (s : Scenario) (medium : ℕ) (r : Contaminant) → guidelineOf s medium r .block ≤ 1
 unfolding guidelineOf
 guideline-block s medium r =
-    let vs = valuesOf Up (inputsOf s r) in
-    let risk = pathwaysOf medium (r .class) 0 in
-    let hazard = pathwaysOf medium (r .class) 1 in
-    cases (workedOut vs risk hazard) (scenarioFits s medium) (lacksFactor s) (contaminantFits r) (worked-block vs risk hazard)
-  where
-    cases : (g : GuidelineAnswer) (a b c : Bool) → g .block ≤ 1 → cond a (cond b (refused Factor 0) (cond c g (refused Field 1))) (refused Field 0) .block ≤ 1
-    cases g true false true h = h
-    cases g true false false h = omega arith
-    cases g true true c h = omega arith
-    cases g false b c h = omega arith
+    let before = scenarioRefusal s medium in
+    let after = recordRefusal s medium r in
+    let worked = either-block (eqb (numberOf after) 0) (workedOut s medium r) (refused after 1) (worked-block s medium r) (omega arith) in
+    either-block (eqb (numberOf before) 0) _ (refused before 0) (either-block (contaminantFits r) _ (refused Field 1) worked (omega arith)) (omega arith)
 
 sent-block : (header contaminant : List ℕ) (room : ℕ) → guidelineSent header contaminant room .block ≤ 1
 unfolding guidelineSent
-sent-block header contaminant room = cases (eqb (numberOf (g .refusal)) 0) (ltb room 64)
-  where
-    g : GuidelineAnswer
-    g = guidelineOf (headerFrom header .scenario) (headerFrom header .medium) (contaminantFrom contaminant)
-
-    cases : (a b : Bool) → cond a (cond b (refused Room 0) g) g .block ≤ 1
-    cases true true = omega arith
-    cases true false = guideline-block _ _ _
-    cases false b = guideline-block _ _ _
+sent-block header contaminant room =
+    let g = guidelineOf (headerFrom header .scenario) (headerFrom header .medium) (contaminantFrom contaminant) in
+    let own = guideline-block (headerFrom header .scenario) (headerFrom header .medium) (contaminantFrom contaminant) in
+    either-block (eqb (numberOf (g .refusal)) 0) _ g (either-block (ltb room 64) (refused Room 0) g (omega arith) own) own
 
 -- THE WORD of every single guideline
 pub guideline-word : (header contaminant : List ℕ) (room : ℕ) → Unpacked (guidelineWord (guidelineSent header contaminant room))
