@@ -3,6 +3,7 @@ use Prim.Native.Nat.{ℕ, zero, suc}
 use mathlib.Core.List.{List, [], _∷_, _++_}
 use mathlib.Core.Bool.{cond}
 use lib.Dec.{eqb}
+use Rattle.formulas.specs.Side.{Side, Risk, Hazard}
 use Rattle.decimal.specs.declared.Decimal.{Decimal}
 use Rattle.guideline_rules.specs.declared.SideGuidelines.{SideGuidelines}
 use Rattle.sum_rules.specs.declared.Verdict.{Verdict}
@@ -12,6 +13,10 @@ use Rattle.text.specs.Numbers.{numberText}
 use Rattle.text.specs.Decimals.{orElse}
 
 -- risk, hazard
+abbrev pub sideNumber : Side → ℕ
+sideNumber Risk = 0
+sideNumber Hazard = 1
+
 abbrev pub sideWord : ℕ → List ℕ
 sideWord zero = 114 ∷ (105 ∷ (115 ∷ (107 ∷ [])))
 sideWord (suc n) = 104 ∷ (97 ∷ (122 ∷ (97 ∷ (114 ∷ (100 ∷ [])))))

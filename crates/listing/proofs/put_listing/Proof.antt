@@ -2,7 +2,8 @@
 use mathlib.Core.Path.{sym, _∙_}
 use native.Mathlib.Omega.{arith}
 use lib.ListN.{length}
-use Rattle.site_rules.proofs.Opened.{right-length, site-long, count-most}
+use Rattle.site_rules.proofs.RightLength.{right-length}
+use Rattle.site_rules.proofs.Opened.{site-long, count-most}
 use Rattle.listing_rules.specs.Lines.{refusalLine}
 use Rattle.listing.proofs.Progress.{wrote-first, wrote-of, wrote-all}
 use Rattle.listing.proofs.Listings.{accepted-parts, count-is, text-refused, text-accepted}
