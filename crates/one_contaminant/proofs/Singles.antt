@@ -7,14 +7,14 @@ use native.Mathlib.Omega.{arith}
 use lib.Dec.{eqb}
 use lib.ListN.{length, getD, take, drop, length-append, length-drop}
 use lib.Seq.{length-take-le}
-use borrow.Author.Tests.{eqb-true, eqb-false}
+use borrow.Author.Tests.{eqb-true, eqb-false, ne-eqb}
 use Rattle.outcome.specs.declared.Refusal.{Refusal}
 use Rattle.outcome.specs.declared.Refusal.the-variants.{Accepted, Field, Factor}
 use Rattle.decimal.specs.Decimal.{zeroOf}
 use Rattle.outcome.specs.declared.Answer.{Answer}
 use Rattle.outcome.specs.Outcome.{numberOf, answer}
 use Rattle.inputs.specs.declared.Contaminant.{Contaminant}
-use Rattle.inputs.specs.Rules.{scenarioFits, lacksFactor, contaminantFits}
+use Rattle.inputs.specs.Rules.{scenarioFits, lacksFactor, contaminantFits, scenarioRefusal}
 use Rattle.words.specs.Bytes.{over}
 use Rattle.words.proofs.Written.{over-length, over-all, lent-part}
 use Rattle.fields.specs.Fields.{decimalsAt}
@@ -41,16 +41,13 @@ use Rattle.one_contaminant.specs.Single.{oneOf, Written, Single}
 
 module _ (h : Header) (r : Contaminant) where
   -- ---- the header: 4, then 6, in block 0
-  header-cases : (n : Refusal) (b c : Bool) → scenarioFits (h .scenario) (h .medium) ≡ b → lacksFactor (h .scenario) ≡ c →
-      n ≡ cond (not b) Field (cond c Factor Accepted) → (numberOf n ≡ 0 → ⊥) → guidelineOf (h .scenario) (h .medium) r ≡ refused n 0
-  unfolding guidelineOf
-  header-cases n false c f k q z = rw f (ap (λ (x : Refusal). refused x 0) (sym q))
-  header-cases n true true f k q z = rw (f, k) (ap (λ (x : Refusal). refused x 0) (sym q))
-  header-cases n true false f k q z = absurd (z (ap numberOf q))
+  header-tests : headerRefusal 1024 (oneOf h) ≡ scenarioRefusal (h .scenario) (h .medium)
+  unfolding headerRefusal headerFit inFile scenarioRefusal
+  header-tests = refl
 
   pub header-sent : (n : Refusal) → n ≡ headerRefusal 1024 (oneOf h) → (numberOf n ≡ 0 → ⊥) → guidelineOf (h .scenario) (h .medium) r ≡ refused n 0
-  unfolding headerRefusal headerFit inFile
-  header-sent n e = header-cases n (scenarioFits (h .scenario) (h .medium)) (lacksFactor (h .scenario)) refl refl e
+  unfolding guidelineOf
+  header-sent n e z = let same = sym (e ∙ header-tests) in rw (same, ne-eqb (numberOf n) 0 z)
 
   kept : (n : Refusal) (b c : Bool) → n ≡ cond (not b) Field (cond c Factor Accepted) → numberOf n ≡ 0 → (b ≡ true) × (c ≡ false)
   kept n true false q z = (refl, refl)
@@ -63,9 +60,13 @@ module _ (h : Header) (r : Contaminant) where
 
   -- ---- the contaminant: 4, in block 1
   module _ (fit : headerFit (oneOf h) ≡ true) (known : lacksFactor (h .scenario) ≡ false) where
+    scenario-kept : scenarioRefusal (h .scenario) (h .medium) ≡ Accepted
+    unfolding headerFit inFile scenarioRefusal
+    scenario-kept = simp (fit, known)
+
     record-cases : (n : Refusal) (b : Bool) → contaminantFits r ≡ b → n ≡ cond (not b) Field Accepted → (numberOf n ≡ 0 → ⊥) → guidelineOf (h .scenario) (h .medium) r ≡ refused n 1
-    unfolding guidelineOf headerFit inFile
-    record-cases n false f q z = rw (fit, known, f) (ap (λ (x : Refusal). refused x 1) (sym q))
+    unfolding guidelineOf
+    record-cases n false f q z = rw (scenario-kept, f) (ap (λ (x : Refusal). refused x 1) (sym q))
     record-cases n true f q z = absurd (z (ap numberOf q))
 
     pub record-sent : (n : Refusal) → n ≡ contaminantRefusal 512 1 r → (numberOf n ≡ 0 → ⊥) → guidelineOf (h .scenario) (h .medium) r ≡ refused n 1
