@@ -1,13 +1,13 @@
 -- What a formula needs so that its term can be bounded: how many roundings it makes and how far its exponent can go. Every formula of
 -- the table passes one computed test. Assumes nothing.
 use mathlib.Core.Path.{_≡_, refl}
-use mathlib.Core.Bool.{Bool, true, false, cond, not, _&&_}
+use mathlib.Core.Bool.{Bool, true, false, cond, not, _&&_, and-false}
 use mathlib.Core.List.{List, [], _∷_}
-use Prim.Native.Nat.{ℕ, zero, suc, _+_, _≤_}
+use Prim.Native.Nat.{ℕ, zero, suc, _+_, _≤_, _<_}
 use native.Mathlib.Omega.{arith}
 use lib.Dec.{eqb, leb, ltb}
 use lib.ListN.{length, getD}
-use borrow.Author.Tests.{eqb-true, leb-true}
+use borrow.Author.Tests.{eqb-true, ne-eqb, leb-true}
 use Rattle.inputs.specs.Limits.{inputWidth, partRoundings, partWidth, workedRoundings, workedWidth, formulaRoundings, formulaWidth}
 use Rattle.inputs.proofs.Tests.{and-split}
 use Rattle.formulas.specs.Side.{Side, Risk, Hazard}
@@ -125,6 +125,14 @@ table-sound medium class side = table-good medium class side .sound
 
 pub three-pathways : (medium class : ℕ) (side : Side) → length (pathwaysOf medium class side) ≡ 3
 three-pathways medium class side = table-good medium class side .three
+
+-- a class that has no row has no pathway: no other class can stand for it
+pub other-class : (medium class : ℕ) (side : Side) → 2 < class → pathwaysOf medium class side ≡ noPathways
+unfolding pathwaysOf table
+other-class medium class side h =
+    let one = ne-eqb 1 class (λ e. omega (arith, h, e)) in
+    let two = ne-eqb 2 class (λ e. omega (arith, h, e)) in
+    simp (one, two, and-false)
 
 -- no medium and class has two rows, of which the second would not count
 abbrev named : List Row → ℕ → ℕ → Bool
