@@ -1,6 +1,6 @@
 -- What the test of an operand says of the number, and how a method's result follows from it. Assumes nothing.
 use mathlib.Core.Path.{_≡_, refl, sym, ap, subst, _∙_}
-use mathlib.Core.Bool.{Bool, true, false, cond, not, _&&_}
+use mathlib.Core.Bool.{Bool, true, false, cond, not, _&&_, and-eq-true-iff}
 use mathlib.Core.Logic.{_⊎_, inl, inr}
 use Prim.Native.Nat.{ℕ, _*_, _^_, _≤_, _<_}
 use native.Mathlib.Omega.{arith}
@@ -16,12 +16,10 @@ use Rattle.decimal.proofs.Bias.{raised-bounds, raised-is}
 
 -- ---- a conjunction of tests
 pub and-left : (a b : Bool) → a && b ≡ true → a ≡ true
-and-left true b h = refl
-and-left false b h = h
+and-left a b h = and-eq-true-iff a b .0 h .0
 
 pub and-right : (a b : Bool) → a && b ≡ true → b ≡ true
-and-right true b h = h
-and-right false b h = absurd (let z : _≡_ {A = ℕ} 0 1 = cc in omega arith)
+and-right a b h = and-eq-true-iff a b .0 h .1
 
 pub record Operand (r : Number) : Type 0 where
   pub working : Working r

@@ -16,6 +16,7 @@ use Rattle.rounding.specs.WorkingForm.{nineOf}
 use Rattle.rounding.proofs.ExactResults.{product-rounds, quotient-zero, quotient-rounds, sum-rounds}
 use Rattle.rounding.proofs.Exponents.{product-result, quotient-result, sum-result}
 use Rattle.rounding.proofs.NineDigits.{nine-result}
+use Rattle.inputs.specs.Limits.{inputWidth, middleWidth}
 use Rattle.decimal.specs.declared.Decimal.{Decimal}
 use Rattle.decimal.specs.Decimal.{zeroOf, biasedOf, decimalOf, mulOf, divOf, addOf, workingOf}
 use Rattle.decimal.proofs.OperandFacts.{Operand}
@@ -35,7 +36,7 @@ use Rattle.decimal.proofs.Value.{Value, absent, known}
 pub stands-operand : {w : ℕ} {r : Number} {d : Decimal} → w ≤ 990 → Stands w r d → Operand r
 stands-operand h s = record { working = s .working; range = record { most = s .most; low = omega (arith, s .low); high = omega (arith, s .high) } }
 
-pub stands-middle : {w : ℕ} {r : Number} {d : Decimal} → w ≤ 300 → Stands w r d → Middle r
+pub stands-middle : {w : ℕ} {r : Number} {d : Decimal} → w ≤ middleWidth → Stands w r d → Middle r
 stands-middle h s = record { most = s .most; low = omega (arith, s .low); high = omega (arith, s .high) }
 
 pub stands-most : {v w : ℕ} {r : Number} {d : Decimal} → v ≤ w → Stands v r d → Stands w r d
@@ -113,11 +114,11 @@ stands-value {w} {r} {d} h s = cases (s .working)
     cases (inr n) = known (subst (Sized w) (s .is) (sized-of w r n (s .low) (s .high) h))
 
 -- ---- the number of a valid decimal
-pub number-stands : (d : Decimal) (r : Number) → validOf d ≡ true → r ≡ nineOf (biasedOf d) → Stands 28 r (workingOf d)
+pub number-stands : (d : Decimal) (r : Number) → validOf d ≡ true → r ≡ nineOf (biasedOf d) → Stands inputWidth r (workingOf d)
 number-stands d r v e =
     let k = valid-small d v in
     let n = nine-result (biasedOf d) (k .digits) in
-    subst (λ (n : Number). Stands 28 n (workingOf d)) (sym e)
+    subst (λ (n : Number). Stands inputWidth n (workingOf d)) (sym e)
     (record {
       is = sym (working-is d (k .digits) (omega (arith, k .low)));
       working = nine-working d (k .digits) (omega (arith, k .low));
@@ -130,10 +131,10 @@ number-stands d r v e =
 abbrev pub noNumber : Number
 noNumber = record { m = 0; x = bias - 8 }
 
-pub zero-stands : Stands 28 noNumber zeroOf
+pub zero-stands : Stands inputWidth noNumber zeroOf
 zero-stands = record { is = refl; working = inl refl; most = lit< tt; low = lit≤ tt; high = lit≤ tt }
 
-pub stands-at : {ns : List Number} {ds : List Decimal} → StandAll ns ds → (k : ℕ) → Stands 28 (getD ns k noNumber) (getD ds k zeroOf)
+pub stands-at : {ns : List Number} {ds : List Decimal} → StandAll ns ds → (k : ℕ) → Stands inputWidth (getD ns k noNumber) (getD ds k zeroOf)
 stands-at end k = zero-stands
 stands-at (next s ss) zero = s
 stands-at (next s ss) (suc k) = stands-at ss k
@@ -152,8 +153,8 @@ all-same (next s ss) = ap₂ _∷_ (s .is) (all-same ss)
 
 -- ---- the targets of a scenario
 module _ (s : Scenario) (f : Factors) (h : FactorsFor s f) where
-  pub risk-target : Stands 28 (f .targets .tr) (workingOf (s .targets .tr))
+  pub risk-target : Stands inputWidth (f .targets .tr) (workingOf (s .targets .tr))
   risk-target = stands-at h 10
 
-  pub hazard-target : Stands 28 (f .targets .thi) (workingOf (s .targets .thi))
+  pub hazard-target : Stands inputWidth (f .targets .thi) (workingOf (s .targets .thi))
   hazard-target = stands-at h 11

@@ -1,11 +1,12 @@
 -- What the code keeps of a scenario: the products that name no decimal of a contaminant.
 use mathlib.Core.List.{[], _∷_}
-use Prim.Native.Nat.{_+_, _≤_, _<_}
+use Prim.Native.Nat.{_+_, _-_, _≤_, _<_}
 use lib.IntN.{pos, negsuc}
-use Rattle.rounding.specs.Sizes.{tenDigits}
+use Rattle.rounding.specs.Sizes.{tenDigits, bias}
 use Rattle.rounding.specs.declared.Direction.{Direction}
 use Rattle.rounding.specs.declared.Number.{Number}
 use Rattle.rounding.specs.Direction.{opposite}
+use Rattle.inputs.specs.Limits.{twoWidth, threeWidth, middleWidth}
 use Rattle.decimal.specs.declared.Decimal.{Decimal}
 use Rattle.decimal.specs.Decimal.{decimalOf, divOf, workingOf}
 use Rattle.decimal.specs.Lists.{productOf}
@@ -17,8 +18,8 @@ use Rattle.factors.specs.Stands.{Stands, ReadyFactors}
 -- a number that can be multiplied twice and stay in range
 pub record Middle (r : Number) : Type 0 where
   pub most : r .m < tenDigits
-  pub low : 2692 ≤ r .x
-  pub high : r .x ≤ 3292
+  pub low : (bias - 8) ≤ r .x + middleWidth
+  pub high : r .x ≤ (bias - 8) + middleWidth
 
 -- the size of a product of three
 pub record Product3 (a b c r : Number) : Type 0 where
@@ -43,8 +44,8 @@ unit = workingOf (record { m = 1; e = pos 0 })
 pub record PreparedFor (dir : Direction) (f : Factors) (p : Prepared) : Type 0 where
   pub same : p .factors ≡ f
   pub ready : ReadyFactors (p .factors)
-  pub lifetime : Stands 86 (p .lifetime) (productOf (opposite dir) (decimalOf (f .exposure .bw) ∷ decimalOf (f .exposure .at) ∷ days ∷ []))
-  pub soil-intake : Stands 86 (p .«soil_intake») (productOf dir (decimalOf (f .contact .ir) ∷ millionth ∷ decimalOf (f .exposure .ef) ∷ []))
-  pub water-intake : Stands 57 (p .«water_intake») (productOf dir (decimalOf (f .contact .ir) ∷ decimalOf (f .exposure .ef) ∷ []))
-  pub vapour-intake : Stands 86 (p .«vapour_intake») (productOf dir (decimalOf (f .contact .ira) ∷ half ∷ decimalOf (f .exposure .ef) ∷ []))
-  pub inverse-pef : Stands 57 (p .«inverse_pef») (divOf unit (decimalOf (f .contact .pef)) dir)
+  pub lifetime : Stands threeWidth (p .lifetime) (productOf (opposite dir) (decimalOf (f .exposure .bw) ∷ decimalOf (f .exposure .at) ∷ days ∷ []))
+  pub soil-intake : Stands threeWidth (p .«soil_intake») (productOf dir (decimalOf (f .contact .ir) ∷ millionth ∷ decimalOf (f .exposure .ef) ∷ []))
+  pub water-intake : Stands twoWidth (p .«water_intake») (productOf dir (decimalOf (f .contact .ir) ∷ decimalOf (f .exposure .ef) ∷ []))
+  pub vapour-intake : Stands threeWidth (p .«vapour_intake») (productOf dir (decimalOf (f .contact .ira) ∷ half ∷ decimalOf (f .exposure .ef) ∷ []))
+  pub inverse-pef : Stands twoWidth (p .«inverse_pef») (divOf unit (decimalOf (f .contact .pef)) dir)

@@ -5,6 +5,7 @@ use Prim.Native.Nat.{ℕ, _+_, _≤_, _<_, _-_}
 use Rattle.rounding.specs.Sizes.{tenDigits, bias}
 use Rattle.rounding.specs.declared.Number.{Number}
 use Rattle.rounding.specs.Number.{Working}
+use Rattle.inputs.specs.Limits.{inputWidth}
 use Rattle.decimal.specs.declared.Decimal.{Decimal}
 use Rattle.decimal.specs.Decimal.{decimalOf, workingOf}
 use Rattle.inputs.specs.declared.Exposure.{Exposure}
@@ -33,12 +34,12 @@ pub record Stands (w : ℕ) (r : Number) (d : Decimal) : Type 0 where
 
 -- a number that stands for a working decimal of an input
 abbrev pub Input : Number → Type 0
-Input r = Stands 28 r (decimalOf r)
+Input r = Stands inputWidth r (decimalOf r)
 
 -- each number stands for the working decimal at its place
 pub data StandAll : List Number → List Decimal → Type 0 where
   end : StandAll [] []
-  next : {n : Number} {d : Decimal} {ns : List Number} {ds : List Decimal} → Stands 28 n d → StandAll ns ds → StandAll (n ∷ ns) (d ∷ ds)
+  next : {n : Number} {d : Decimal} {ns : List Number} {ds : List Decimal} → Stands inputWidth n d → StandAll ns ds → StandAll (n ∷ ns) (d ∷ ds)
 
 -- ---- the numbers of each group as a list, in the order of its decimals
 abbrev pub exposureNumbers : ExposureNumbers → List Number

@@ -10,6 +10,7 @@ use inputs::Transfer;
 use rounding::Number;
 ghost use mathlib.Core.Path.{_≡_};
 ghost use mathlib.Core.Bool.{true};
+ghost use Rattle.inputs.specs.Limits.{inputWidth};
 ghost use Rattle.decimal.specs.Decimal.{workingOf};
 ghost use Rattle.inputs.specs.Inputs.{exposureDecimals, contactDecimals, targetDecimals, toxicityDecimals, transferDecimals, scenarioDecimals, formulaDecimals};
 ghost use Rattle.inputs.specs.Valid.{validOf, allValid};
@@ -65,7 +66,7 @@ pub struct ContaminantNumbers {
 // The number of a decimal that keeps its rule.
 pub fn number_of(d: Decimal) -> Number
     requires { ⌜ validOf d ≡ true ⌝ }
-    ensures { λ r. ⌜ Stands 28 r (workingOf d) ⌝ }
+    ensures { λ r. ⌜ Stands inputWidth r (workingOf d) ⌝ }
 {
     decimal::biased(d).working()
 }

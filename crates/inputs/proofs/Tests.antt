@@ -1,7 +1,7 @@
 -- Tests joined by `&&`, and what a valid decimal is. Assumes nothing.
 use mathlib.Core.Path.{_≡_, refl, sym, ap, _∙_}
 use mathlib.Core.Logic.{inl, inr}
-use mathlib.Core.Bool.{Bool, true, false, _&&_, _||_, and-assoc}
+use mathlib.Core.Bool.{Bool, true, false, _&&_, _||_, and-assoc, and-eq-true-iff}
 use mathlib.Core.List.{List, [], _∷_, _++_}
 use Prim.Native.Nat.{ℕ, zero, suc, _≤_, _<_}
 use native.Mathlib.Omega.{arith}
@@ -19,8 +19,7 @@ use Rattle.inputs.specs.Valid.{validOf, allValid}
 use Rattle.inputs.specs.Rules.{oneOrTwo, OneOrTwo}
 
 pub and-split : (a b : Bool) → a && b ≡ true → (a ≡ true) × (b ≡ true)
-and-split true b h = (refl, h)
-and-split false b h = absurd (let z : _≡_ {A = ℕ} 0 1 = cc in omega arith)
+and-split a b h = and-eq-true-iff a b .0 h
 
 -- ---- a valid decimal has at most nine digits and an exponent from -20 to 20
 pub record Small (d : Decimal) : Type 0 where

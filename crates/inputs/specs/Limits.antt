@@ -7,6 +7,17 @@ use Rattle.inputs.specs.Rules.{mostContaminants}
 abbrev pub inputWidth : ℕ
 inputWidth = 28
 
+-- the product of two inputs, or their quotient, and the product of three
+abbrev pub twoWidth : ℕ
+twoWidth = inputWidth + inputWidth + 1
+
+abbrev pub threeWidth : ℕ
+threeWidth = twoWidth + inputWidth + 1
+
+-- what may be multiplied twice in the code
+abbrev pub middleWidth : ℕ
+middleWidth = 300
+
 -- a part of a factor that is worked out, and the sum of two parts
 abbrev pub partRoundings : ℕ
 partRoundings = 5

@@ -20,7 +20,7 @@ use Rattle.factors.specs.declared.numbers.ContaminantNumbers.{ContaminantNumber
 use Rattle.factors.specs.declared.prepared.Prepared.{Prepared}
 use Rattle.terms.specs.declared.pathways.PathwayTerms.{PathwayTerms}
 use Rattle.terms.specs.declared.pathways.Terms.{Terms}
-use Rattle.inputs.specs.Limits.{inputWidth, partRoundings, partWidth, workedWidth, formulaRoundings, formulaWidth}
+use Rattle.inputs.specs.Limits.{inputWidth, partRoundings, partWidth, workedWidth, formulaRoundings, formulaWidth, twoWidth}
 use Rattle.formulas.specs.Side.{Side, Hazard}
 use Rattle.formulas.specs.Formula.{_÷_, none, B, One, VF, PEF, noPathways, table, pathwaysOf, derived, derivedPlaces}
 use Rattle.formulas.specs.Term.{look, constants, presentOf, evaluated, termOf, totalOf}
@@ -105,7 +105,7 @@ module _ {dir : Direction} {p : Prepared} {t : ContaminantNumbers} (r : Ready di
   unfoldable pub airNumber : Number
   airNumber = sumOf dir (quotientOf dir (num 100000000 2992) (t .transfer .vf)) (p .«inverse_pef»)
 
-  vf-stands : Stands 57 (quotientOf dir (num 100000000 2992) (t .transfer .vf)) (divOf unit (decimalOf (t .transfer .vf)) dir)
+  vf-stands : Stands twoWidth (quotientOf dir (num 100000000 2992) (t .transfer .vf)) (divOf unit (decimalOf (t .transfer .vf)) dir)
   unfolding numberValues derived
   vf-stands = stands-div dir unit-stands (input VF) (lit≤ tt) refl
 
@@ -117,7 +117,7 @@ module _ {dir : Direction} {p : Prepared} {t : ContaminantNumbers} (r : Ready di
       ap (λ (d : Decimal). summed dir d (divOf unit (decimalOf (f .contact .pef)) dir ∷ [])) (skip-first dir (stands-value (lit≤ tt) vf-stands)) ∙
       skip-next dir (stands-value (lit≤ tt) vf-stands) (stands-value (lit≤ tt) (r .prepared .inverse-pef))
 
-  pub air-stands : Stands 58 airNumber (look (numberValues dir f t) B)
+  pub air-stands : Stands (twoWidth + 1) airNumber (look (numberValues dir f t) B)
   unfolding airNumber
   air-stands = stands-is (sym added) (stands-add dir vf-stands (r .prepared .inverse-pef) (lit≤ tt) (lit≤ tt) refl)
 

@@ -15,7 +15,7 @@ use Rattle.terms.specs.declared.pathways.Terms.{Terms}
 use Rattle.formulas.specs.Side.{Risk, Hazard}
 use Rattle.formulas.specs.Formula.{Formula, B, none, pathwaysOf, derived}
 use Rattle.formulas.specs.Term.{look, constants, totalOf, termOf}
-use Rattle.inputs.specs.Limits.{formulaWidth}
+use Rattle.inputs.specs.Limits.{formulaWidth, twoWidth}
 use Rattle.factors.specs.Stands.{Stands, factorNumbers, contaminantNumbers, ReadyNumbers}
 use Rattle.factors.specs.Prepared.{PreparedFor}
 
@@ -34,7 +34,7 @@ pub record Ready (dir : Direction) (p : Prepared) (t : ContaminantNumbers) : Typ
 
 -- b is B in a direction
 pub record Air (dir : Direction) (p : Prepared) (t : ContaminantNumbers) (b : Number) : Type 0 where
-  pub stands : Stands 58 b (look (numberValues dir (p .factors) t) B)
+  pub stands : Stands (twoWidth + 1) b (look (numberValues dir (p .factors) t) B)
 
 pub record SideFor (dir : Direction) (f : Factors) (t : ContaminantNumbers) (fs : List Formula) (s : PathwayTerms) : Type 0 where
   pub first : Stands formulaWidth (s .first) (termOf (numberValues dir f t) dir (getD fs 0 none))

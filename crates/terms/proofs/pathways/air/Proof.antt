@@ -1,8 +1,10 @@
 -- `terms::pathways::air` meets its contract. Assumes nothing.
+use Prim.Native.Nat.{_+_}
 use mathlib.Core.Path.{sym, ap, subst, _∙_}
 use lib.Dec.{lit≤}
 use Rattle.rounding.specs.declared.Number.{Number}
 use Rattle.rounding.specs.Operations.{sumOf}
+use Rattle.inputs.specs.Limits.{twoWidth}
 use Rattle.formulas.specs.Formula.{B, One, VF}
 use Rattle.formulas.specs.Term.{look}
 use Rattle.factors.specs.Stands.{Stands}
@@ -29,7 +31,7 @@ returns c =
     let s = quotient .before in
     let a = s .args in
     let e = c .add .ensures .0 ∙ ap (λ (q : Number). sumOf (a .dir) q (a .p .«inverse_pef»)) (quotient .div .ensures .0) in
-    record { stands = subst (λ (b : Number). Stands 58 b (look (numberValues (a .dir) (a .p .factors) (a .t)) B)) (sym e) (air-stands (s .pre)) }
+    record { stands = subst (λ (b : Number). Stands (twoWidth + 1) b (look (numberValues (a .dir) (a .p .factors) (a .t)) B)) (sym e) (air-stands (s .pre)) }
 
 pub air-spec : {M : Type 1} → statement M
 air-spec = tie.close (tie.spec div-requires add-requires returns)

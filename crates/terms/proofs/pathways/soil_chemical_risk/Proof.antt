@@ -2,6 +2,7 @@
 use mathlib.Core.List.{List, [], _∷_}
 use Prim.Native.Nat.{ℕ}
 use lib.Dec.{lit≤}
+use Rattle.inputs.specs.Limits.{threeWidth}
 use Rattle.decimal.specs.declared.Decimal.{Decimal}
 use Rattle.formulas.specs.Side.{Risk}
 use Rattle.formulas.specs.Formula.{B, Millionth, EF, ED, IR, IRA, SFo, SFi, table, pathwaysOf, derived}
@@ -20,7 +21,7 @@ abbrev product : tie.After-x → List ℕ → Decimal
 product c ns = let a = start c .args in named (a .dir) (a .p) (a .t) ns
 
 -- ---- what the code multiplies
-oral3 : (c : tie.After-product3) → Stands 86 (c .product3 .result) (product (c .before) (SFo ∷ IR ∷ Millionth ∷ []))
+oral3 : (c : tie.After-product3) → Stands threeWidth (c .product3 .result) (product (c .before) (SFo ∷ IR ∷ Millionth ∷ []))
 oral3 c =
     let s = start (c .before) in
     let r = input (s .pre .0) in

@@ -2,6 +2,7 @@
 use mathlib.Core.List.{List, [], _∷_}
 use Prim.Native.Nat.{ℕ}
 use lib.Dec.{lit≤}
+use Rattle.inputs.specs.Limits.{twoWidth, threeWidth}
 use Rattle.decimal.specs.declared.Decimal.{Decimal}
 use Rattle.formulas.specs.Side.{Risk}
 use Rattle.formulas.specs.Formula.{Millionth, YearsPerHour, EF, ED, IR, IRA, PEF, ET, RF, SFo, SFi, SFx, table, pathwaysOf, derived}
@@ -24,7 +25,7 @@ abbrev product : tie.After-x → List ℕ → Decimal
 product c ns = let a = start c .args in named (a .dir) (a .p) (a .t) ns
 
 -- ---- what the code multiplies
-inhaled2 : (c : tie.After-mul) → Stands 57 (c .mul .result) (product (c .before) (SFi ∷ IRA ∷ []))
+inhaled2 : (c : tie.After-mul) → Stands twoWidth (c .mul .result) (product (c .before) (SFi ∷ IRA ∷ []))
 inhaled2 c =
     let s = start (c .before) in
     let r = input (s .pre) in
@@ -36,7 +37,7 @@ inhaled c =
     let r = input (s .pre) in
     stands-mul3 (s .args .dir) (inhaled2 (c .before)) (r EF) (r ED) (lit≤ tt) (c .product3 .ensures .0)
 
-outdoors3 : (c : tie.After-product32) → Stands 86 (c .product32 .result) (product (c .before .before .before) (SFx ∷ ET ∷ RF ∷ []))
+outdoors3 : (c : tie.After-product32) → Stands threeWidth (c .product32 .result) (product (c .before .before .before) (SFx ∷ ET ∷ RF ∷ []))
 outdoors3 c =
     let s = start (c .before .before .before) in
     let r = input (s .pre) in
@@ -48,7 +49,7 @@ outdoors4 c =
     let r = input (s .pre) in
     stands-mul (s .args .dir) (outdoors3 (c .before)) (r YearsPerHour) (lit≤ tt) (c .mul2 .ensures .0)
 
-oral3 : (c : tie.After-product33) → Stands 86 (c .product33 .result) (product (early (c .before)) (SFo ∷ IR ∷ Millionth ∷ []))
+oral3 : (c : tie.After-product33) → Stands threeWidth (c .product33 .result) (product (early (c .before)) (SFo ∷ IR ∷ Millionth ∷ []))
 oral3 c =
     let s = start (early (c .before)) in
     let r = input (s .pre) in

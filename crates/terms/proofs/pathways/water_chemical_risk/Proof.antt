@@ -2,6 +2,7 @@
 use mathlib.Core.List.{List, [], _∷_}
 use Prim.Native.Nat.{ℕ}
 use lib.Dec.{lit≤}
+use Rattle.inputs.specs.Limits.{twoWidth, threeWidth}
 use Rattle.decimal.specs.declared.Decimal.{Decimal}
 use Rattle.formulas.specs.Side.{Risk}
 use Rattle.formulas.specs.Formula.{Thousandth, Half, EF, ED, IR, IRA, ET, SA, SFo, SFi, PC, table, pathwaysOf, derived}
@@ -24,7 +25,7 @@ abbrev product : tie.After-pc → List ℕ → Decimal
 product c ns = let a = start c .args in named (a .dir) (a .p) (a .t) ns
 
 -- ---- what the code multiplies
-oral2 : (c : tie.After-mul) → Stands 57 (c .mul .result) (product (c .before) (SFo ∷ IR ∷ []))
+oral2 : (c : tie.After-mul) → Stands twoWidth (c .mul .result) (product (c .before) (SFo ∷ IR ∷ []))
 oral2 c =
     let s = start (c .before) in
     let r = input (s .pre) in
@@ -36,7 +37,7 @@ oral c =
     let r = input (s .pre) in
     stands-mul3 (s .args .dir) (oral2 (c .before)) (r EF) (r ED) (lit≤ tt) (c .product3 .ensures .0)
 
-inhaled3 : (c : tie.After-product32) → Stands 86 (c .product32 .result) (product (c .before .before .before) (SFi ∷ IRA ∷ Half ∷ []))
+inhaled3 : (c : tie.After-product32) → Stands threeWidth (c .product32 .result) (product (c .before .before .before) (SFi ∷ IRA ∷ Half ∷ []))
 inhaled3 c =
     let s = start (c .before .before .before) in
     let r = input (s .pre) in
@@ -48,7 +49,7 @@ inhaled c =
     let r = input (s .pre) in
     stands-mul3 (s .args .dir) (inhaled3 (c .before)) (r EF) (r ED) (lit≤ tt) (c .product33 .ensures .0)
 
-skin3 : (c : tie.After-product34) → Stands 86 (c .product34 .result) (product (early (c .before)) (SFo ∷ SA ∷ PC ∷ []))
+skin3 : (c : tie.After-product34) → Stands threeWidth (c .product34 .result) (product (early (c .before)) (SFo ∷ SA ∷ PC ∷ []))
 skin3 c =
     let s = start (early (c .before)) in
     let r = input (s .pre) in

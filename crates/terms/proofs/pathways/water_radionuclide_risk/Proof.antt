@@ -2,6 +2,7 @@
 use mathlib.Core.List.{List, [], _∷_}
 use Prim.Native.Nat.{ℕ}
 use lib.Dec.{lit≤}
+use Rattle.inputs.specs.Limits.{twoWidth}
 use Rattle.decimal.specs.declared.Decimal.{Decimal}
 use Rattle.formulas.specs.Side.{Risk}
 use Rattle.formulas.specs.Formula.{EF, ED, IR, SFo, table, pathwaysOf, derived}
@@ -20,7 +21,7 @@ abbrev product : tie.After-x → List ℕ → Decimal
 product c ns = let a = start c .args in named (a .dir) (a .p) (a .t) ns
 
 -- ---- what the code multiplies
-oral2 : (c : tie.After-mul) → Stands 57 (c .mul .result) (product (c .before) (SFo ∷ IR ∷ []))
+oral2 : (c : tie.After-mul) → Stands twoWidth (c .mul .result) (product (c .before) (SFo ∷ IR ∷ []))
 oral2 c =
     let s = start (c .before) in
     let r = input (s .pre) in
