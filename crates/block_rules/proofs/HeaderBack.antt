@@ -115,13 +115,17 @@ module _ (h : Header) (fit : headerFit h ≡ true) (known : lacksFactor (h .scen
 
 -- ---- the same of what the call leaves, where it accepts
 accepted-fits : (room : ℕ) (h : Header) → headerRefusal room h ≡ Accepted → (headerFit h ≡ true) × (lacksFactor (h .scenario) ≡ false)
-unfolding headerRefusal
+unfolding headerRefusal headerFit
 accepted-fits room h e =
+    let s = h .scenario in
     let e₁ = passed (ltb room 512) Room _ Accepted (refused Room (λ z. omega arith)) e .1 in
-    let e₂ = passed (not (headerFit h)) Field _ Accepted (refused Field (λ z. omega arith)) e₁ in
-    (not-false _ (e₂ .0), passed (lacksFactor (h .scenario)) Factor Accepted Accepted (refused Factor (λ z. omega arith)) (e₂ .1) .0)
+    let e₂ = passed (not (inFile (h .count))) Field _ Accepted (refused Field (λ z. omega arith)) e₁ in
+    let e₃ = passed (not (scenarioFits s (h .medium))) Field _ Accepted (refused Field (λ z. omega arith)) (e₂ .1) in
+    let lacks = passed (lacksFactor s) Factor Accepted Accepted (refused Factor (λ z. omega arith)) (e₃ .1) .0 in
+    (rw (not-false (inFile (h .count)) (e₂ .0), not-false (scenarioFits s (h .medium)) (e₃ .0)), lacks)
 
-pub header-call-back : (out : List ℕ) (h : Header) → headerRefusal (length out) h ≡ Accepted → headerRead (partOf (headerLeft out h) 0 512) (h .count + 1) ≡ H.Found h
+pub header-call-back : (out : List ℕ) (h : Header) → headerRefusal (length out) h ≡ Accepted →
+    headerRead (partOf (headerLeft out h) 0 512) (h .count + 1) ≡ H.Found h
 unfolding headerLeft leftBy
 header-call-back out h e =
     let f = accepted-fits (length out) h e in

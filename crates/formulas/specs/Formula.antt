@@ -3,6 +3,7 @@ use mathlib.Core.Bool.{cond, _&&_}
 use mathlib.Core.List.{List, [], _∷_}
 use Prim.Native.Nat.{ℕ, _+_}
 use lib.Dec.{eqb}
+use Rattle.inputs.specs.Inputs.{scenarioPlaces}
 use Rattle.formulas.specs.Side.{Side, Risk, Hazard}
 
 -- ---- the names of the factors: their places in a list of values. First those that are worked out from the others
@@ -72,7 +73,7 @@ abbrev pub THI : ℕ
 THI = scenarioFirst + 11
 
 abbrev contaminantFirst : ℕ
-contaminantFirst = scenarioFirst + 12
+contaminantFirst = scenarioFirst + scenarioPlaces
 
 -- of the contaminant, in the order of `formulaDecimals`
 abbrev pub SFo : ℕ

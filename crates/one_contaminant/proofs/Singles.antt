@@ -9,7 +9,7 @@ use lib.ListN.{length, getD, take, drop, length-append, length-drop}
 use lib.Seq.{length-take-le}
 use borrow.Author.Tests.{eqb-true, eqb-false, ne-eqb}
 use Rattle.outcome.specs.declared.Refusal.{Refusal}
-use Rattle.outcome.specs.declared.Refusal.the-variants.{Accepted, Field, Factor}
+use Rattle.outcome.specs.declared.Refusal.the-variants.{Accepted, Field}
 use Rattle.decimal.specs.Decimal.{zeroOf}
 use Rattle.outcome.specs.declared.Answer.{Answer}
 use Rattle.outcome.specs.Outcome.{numberOf, answer}
@@ -22,6 +22,7 @@ use Rattle.words.specs.Words.{partOf}
 use Rattle.guideline_rules.specs.declared.SideGuidelines.{SideGuidelines}
 use Rattle.guideline_rules.specs.declared.GuidelineAnswer.{GuidelineAnswer}
 use Rattle.guideline_rules.specs.Guideline.{guidelineOf, refused}
+use Rattle.guideline_rules.proofs.Accepted.{scenario-passed}
 use Rattle.guideline_rules.proofs.Refused.{refused-is}
 use Rattle.sum_rules.specs.declared.SumsAnswer.{SumsAnswer}
 use Rattle.block_rules.specs.declared.Header.{Header}
@@ -42,21 +43,16 @@ use Rattle.one_contaminant.specs.Single.{oneOf, Written, Single}
 module _ (h : Header) (r : Contaminant) where
   -- ---- the header: 4, then 6, in block 0
   header-tests : headerRefusal 1024 (oneOf h) ≡ scenarioRefusal (h .scenario) (h .medium)
-  unfolding headerRefusal headerFit inFile scenarioRefusal
+  unfolding headerRefusal inFile scenarioRefusal
   header-tests = refl
 
   pub header-sent : (n : Refusal) → n ≡ headerRefusal 1024 (oneOf h) → (numberOf n ≡ 0 → ⊥) → guidelineOf (h .scenario) (h .medium) r ≡ refused n 0
   unfolding guidelineOf
   header-sent n e z = let same = sym (e ∙ header-tests) in rw (same, ne-eqb (numberOf n) 0 z)
 
-  kept : (n : Refusal) (b c : Bool) → n ≡ cond (not b) Field (cond c Factor Accepted) → numberOf n ≡ 0 → (b ≡ true) × (c ≡ false)
-  kept n true false q z = (refl, refl)
-  kept n true true q z = absurd (omega (arith, sym z ∙ ap numberOf q))
-  kept n false c q z = absurd (omega (arith, sym z ∙ ap numberOf q))
-
   pub header-kept : (n : Refusal) → n ≡ headerRefusal 1024 (oneOf h) → numberOf n ≡ 0 → (headerFit (oneOf h) ≡ true) × (lacksFactor (h .scenario) ≡ false)
-  unfolding headerRefusal headerFit inFile
-  header-kept n e = kept n (scenarioFits (h .scenario) (h .medium)) (lacksFactor (h .scenario)) e
+  unfolding headerFit inFile
+  header-kept n e z = let p = scenario-passed (h .scenario) (h .medium) (sym (ap numberOf (e ∙ header-tests)) ∙ z) in (p .fits, p .factors)
 
   -- ---- the contaminant: 4, in block 1
   module _ (fit : headerFit (oneOf h) ≡ true) (known : lacksFactor (h .scenario) ≡ false) where

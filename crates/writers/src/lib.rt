@@ -8,17 +8,8 @@ use outcome::Refusal;
 ghost use mathlib.Core.Path.{_≡_};
 ghost use lib.ListN.{length};
 ghost use Rattle.outcome.specs.Outcome.{answer};
-ghost use Rattle.block_rules.specs.Answers.{headerFit, contaminantFit, headerRefusal, headerAnswer, headerLeft, contaminantRefusal, contaminantAnswer, contaminantLeft};
+ghost use Rattle.block_rules.specs.Answers.{contaminantFit, headerRefusal, headerAnswer, headerLeft, contaminantRefusal, contaminantAnswer, contaminantLeft};
 ghost use Rattle.gv_rules.specs.Exports.{builtInSent, builtInPut};
-
-// Whether a header's count, medium and decimals keep their rule.
-fn header_fit(h: Header) -> bool
-    ensures { λ b. ⌜ b ≡ headerFit h ⌝ }
-{
-    let s = h.scenario;
-    let valid = inputs::scenario_fits(s, h.medium);
-    inputs::both(blocks::in_file(h.count), valid)
-}
 
 // Whether a place keeps its rule, and a contaminant's class, id and decimals.
 fn contaminant_fit(place: u32, r: Contaminant) -> bool
@@ -27,21 +18,17 @@ fn contaminant_fit(place: u32, r: Contaminant) -> bool
     inputs::both(blocks::in_file(place), inputs::contaminant_fits(r))
 }
 
-// What the writer of kind 1 sends back where so many bytes are lent: 10, 4, 6.
+// What the writer of kind 1 sends back where so many bytes are lent: 10, 4 for the count, the tests of the scenario.
 fn header_refusal(room: usize, h: Header) -> Refusal
     ensures { λ n. ⌜ n ≡ headerRefusal room h ⌝ }
 {
     if room < BLOCK_SIZE {
         return Refusal::Room;
     }
-    if !header_fit(h) {
+    if !blocks::in_file(h.count) {
         return Refusal::Field;
     }
-    let s = h.scenario;
-    if inputs::lacks_factor(s) {
-        return Refusal::Factor;
-    }
-    Refusal::Accepted
+    inputs::scenario_refusal(h.scenario, h.medium)
 }
 
 // What the writer of kind 2 sends back where so many bytes are lent: 10, 4.
