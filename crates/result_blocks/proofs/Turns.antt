@@ -9,7 +9,8 @@ use Rattle.sum_rules.specs.Share.{Running, next, runAll}
 use Rattle.site_rules.specs.Blocks.{recordAt, recordsFrom}
 
 module _ (s : Scenario) (medium : ℕ) (site : List ℕ) where
-  pub run-turn : (side : Side) (n k : ℕ) (t : Running) → k < n → runAll s medium side t (recordsFrom site (n - k) (k + 1)) ≡ runAll s medium side (next s medium side t (recordAt site (k + 1))) (recordsFrom site (n - (k + 1)) (k + 1 + 1))
+  pub run-turn : (side : Side) (n k : ℕ) (t : Running) → k < n → runAll s medium side t (recordsFrom site (n - k) (k + 1)) ≡
+      runAll s medium side (next s medium side t (recordAt site (k + 1))) (recordsFrom site (n - (k + 1)) (k + 1 + 1))
   unfolding recordsFrom
   run-turn side n k t l =
       let e : n - k ≡ suc (n - (k + 1)) = omega arith in

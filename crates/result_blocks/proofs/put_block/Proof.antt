@@ -12,10 +12,17 @@ use Rattle.words.proofs.Written.{over-length}
 use Rattle.block_rules.specs.Layouts.{resultBlock}
 use Rattle.block_rules.proofs.ResultsBack.{result-length}
 use Rattle.sums.specs.State.{NextRuns}
+use Rattle.site_rules.specs.Passed.{RecordOk}
 use Rattle.result_blocks.proofs.OneBlock.{read-is, read-ok, block-is, block-wide, risk-printable, hazard-printable, guideline-is, shares-fit, one-more}
 use borrow.Author.Needs.{needs}
 use Rattle.result_blocks.proofs.put_block.Statement.{statement}
 use Rattle.result_blocks.proofs.put_block.Tie as tie
+
+-- what was read is the record of the block, and it can be worked
+read : (c : tie.After-get-contaminant) → let a = c .before .before .before .before .args in RecordOk (a .p .scenario) (a .p .medium) (c .get-contaminant .result)
+read c =
+    let start = c .before .before .before .before in
+    read-ok (start .args .site .now) (start .args .place) (start .pre .0 .ok) (c .get-contaminant .ensures)
 
 mul-at : tie.Need-mul-at
 mul-at c = omega (arith, c .before .before .pre .0 .most)
@@ -44,40 +51,105 @@ get-contaminant-requires c κs =
     omega (arith, n)
 
 work-requires : tie.Need-work-requires
-work-requires c κs = record { ready = c .before .before .before .before .pre .0 .ready; passed = c .before .before .before .before .pre .0 .passed; contaminant = read-ok (c .before .before .before .before .args .site .now) (c .before .before .before .before .args .place) (c .before .before .before .before .pre .0 .ok) (c .get-contaminant .ensures) .fits }
+work-requires c κs =
+    let p = c .before .before .before .before .pre .0 in
+    record { ready = p .ready; passed = p .passed; contaminant = read c .fits }
 
 columns-of-requires : tie.Need-columns-of-requires
-columns-of-requires c κs = block-wide (c .before .before .before .before .before .pre .0 .ready) (c .before .before .before .before .before .pre .0 .passed) (read-ok (c .before .before .before .before .before .args .site .now) (c .before .before .before .before .before .args .place) (c .before .before .before .before .before .pre .0 .ok) (c .before .get-contaminant .ensures)) (c .work .ensures)
+columns-of-requires c κs =
+    let got = c .before in
+    let p = got .before .before .before .before .pre .0 in
+    block-wide (p .ready) (p .passed) (read got) (c .work .ensures)
 
 decimals-requires : tie.Need-decimals-requires
-decimals-requires c κs = risk-printable (c .before .before .before .before .before .before .pre .0 .ready) (c .before .before .before .before .before .before .pre .0 .passed) (read-ok (c .before .before .before .before .before .before .args .site .now) (c .before .before .before .before .before .before .args .place) (c .before .before .before .before .before .before .pre .0 .ok) (c .before .before .get-contaminant .ensures)) (c .before .work .ensures) (c .columns-of .ensures .0) (c .columns-of .ensures .1)
+decimals-requires c κs =
+    let worked = c .before in
+    let got = worked .before in
+    let p = got .before .before .before .before .pre .0 in
+    risk-printable (p .ready) (p .passed) (read got) (worked .work .ensures) (c .columns-of .ensures .0) (c .columns-of .ensures .1)
 
 decimals-requires-2 : tie.Need-decimals-requires-2
-decimals-requires-2 c κs = hazard-printable (c .before .before .before .before .before .before .before .pre .0 .ready) (c .before .before .before .before .before .before .before .pre .0 .passed) (read-ok (c .before .before .before .before .before .before .before .args .site .now) (c .before .before .before .before .before .before .before .args .place) (c .before .before .before .before .before .before .before .pre .0 .ok) (c .before .before .before .get-contaminant .ensures)) (c .before .before .work .ensures) (c .before .columns-of .ensures .0) (c .before .columns-of .ensures .1)
+decimals-requires-2 c κs =
+    let columns = c .before in
+    let worked = columns .before in
+    let got = worked .before in
+    let p = got .before .before .before .before .pre .0 in
+    hazard-printable (p .ready) (p .passed) (read got) (worked .work .ensures) (columns .columns-of .ensures .0) (columns .columns-of .ensures .1)
 
 put-result-requires : tie.Need-put-result-requires
-put-result-requires c κs = c .before .before .before .before .before .before .before .before .before .pre .1
+put-result-requires c κs =
+    let columns = c .before .before .before in
+    let got = columns .before .before in
+    got .before .before .before .before .pre .1
 
 add-shares-requires : tie.Need-add-shares-requires
-add-shares-requires c κs = shares-fit (c .before .before .before .before .before .before .before .before .before .before .before .before .pre .0 .ready) (c .before .before .before .before .before .before .before .before .before .before .before .before .pre .0 .passed) (read-ok (c .before .before .before .before .before .before .before .before .before .before .before .before .args .site .now) (c .before .before .before .before .before .before .before .before .before .before .before .before .args .place) (c .before .before .before .before .before .before .before .before .before .before .before .before .pre .0 .ok) (c .before .before .before .before .before .before .before .before .get-contaminant .ensures)) (c .before .before .before .before .before .before .before .work .ensures) (c .before .before .before .before .before .before .columns-of .ensures .0) (c .before .before .before .before .before .before .columns-of .ensures .1) (omega (arith, c .before .before .before .before .before .before .before .before .before .before .before .before .pre .0 .most)) (c .before .before .before .before .before .before .before .before .before .before .before .before .pre .0 .runs)
+add-shares-requires c κs =
+    let written = c .before .before in
+    let columns = written .before .before .before .before in
+    let worked = columns .before in
+    let got = worked .before in
+    let p = got .before .before .before .before .pre .0 in
+    let g = columns .columns-of .ensures in
+    shares-fit (p .ready) (p .passed) (read got) (worked .work .ensures) (g .0) (g .1) (omega (arith, p .most)) (p .runs)
 
 same-length : tie.Need-same-length
 same-length c =
-    let r = c .before .before .before .before .before .before .before .before .before .get-contaminant .result in
-    ap length (c .before .before .before .put-result .ensures) ∙ over-length (resultBlock (c .before .before .before .before .before .before .before .before .before .before .before .before .before .args .place) (r .class) (r .id) (c .before .before .before .before .before .before .decimals .result) (c .before .before .before .before .before .decimals2 .result)) (c .before .before .before .before .before .before .before .before .before .before .before .before .before .args .out .now) (omega (arith, result-length (c .before .before .before .before .before .before .before .before .before .before .before .before .before .args .place) (r .class) (r .id) (c .before .before .before .before .before .before .decimals .result) (c .before .before .before .before .before .decimals2 .result), c .before .before .before .before .before .before .before .before .before .before .before .before .before .pre .1))
+    let written = c .before .before .before in
+    let hazard = written .before .before in
+    let risk = hazard .before in
+    let got = risk .before .before .before in
+    let start = got .before .before .before .before in
+    let place = start .args .place in
+    let out = start .args .out .now in
+    let r = got .get-contaminant .result in
+    let x = risk .decimals .result in
+    let y = hazard .decimals2 .result in
+    ap length (written .put-result .ensures) ∙
+    over-length (resultBlock place (r .class) (r .id) x y) out (omega (arith, result-length place (r .class) (r .id) x y, start .pre .1))
 
 returns : tie.Need-returns
 returns c =
-    let site = c .before .before .before .before .before .before .before .before .before .before .before .before .before .args .site .now in
-    let place = c .before .before .before .before .before .before .before .before .before .before .before .before .before .args .place in
-    let r = c .before .before .before .before .before .before .before .before .before .get-contaminant .result in
-    let q : _≡_ {A = Contaminant} r _ = read-is site place r (c .before .before .before .before .before .before .before .before .before .get-contaminant .ensures) in
-    let ok = read-ok site place (c .before .before .before .before .before .before .before .before .before .before .before .before .before .pre .0 .ok) (c .before .before .before .before .before .before .before .before .before .get-contaminant .ensures) in
-    let g = guideline-is (c .before .before .before .before .before .before .before .before .before .before .before .before .before .pre .0 .ready) (c .before .before .before .before .before .before .before .before .before .before .before .before .before .pre .0 .passed) ok (c .before .before .before .before .before .before .before .before .work .ensures) (c .before .before .before .before .before .before .before .columns-of .ensures .0) (c .before .before .before .before .before .before .before .columns-of .ensures .1) in
-    let m = one-more (c .before .before .before .before .before .before .before .before .before .before .before .before .before .pre .0 .ready) (c .before .before .before .before .before .before .before .before .before .before .before .before .before .pre .0 .passed) ok (c .before .before .before .before .before .before .before .before .work .ensures) (c .before .before .before .before .before .before .before .columns-of .ensures .0) (c .before .before .before .before .before .before .before .columns-of .ensures .1) (omega (arith, c .before .before .before .before .before .before .before .before .before .before .before .before .before .pre .0 .most)) (c .before .before .before .before .before .before .before .before .before .before .before .before .before .pre .0 .runs) (c .add-shares .ensures) in (
-      subst (λ (x : Contaminant). NextRuns (c .before .before .before .before .before .before .before .before .before .before .before .before .before .args .p) x place (c .before .before .before .before .before .before .before .before .before .before .before .before .before .args .x) (c .add-shares .result)) q m,
-      c .before .before .before .put-result .ensures ∙ ap₂ (λ (x y : SideGuidelines). over (resultBlock place (r .class) (r .id) x y) (c .before .before .before .before .before .before .before .before .before .before .before .before .before .args .out .now)) (c .before .before .before .before .before .before .decimals .ensures) (c .before .before .before .before .before .decimals2 .ensures) ∙ ap (λ (b : List ℕ). over b (c .before .before .before .before .before .before .before .before .before .before .before .before .before .args .out .now)) (block-is (c .before .before .before .before .before .before .before .before .before .before .before .before .before .args .p .scenario) (c .before .before .before .before .before .before .before .before .before .before .before .before .before .args .p .medium) site place r _ _ q g),
+    let written = c .before .before .before in
+    let hazard = written .before .before in
+    let risk = hazard .before in
+    let columns = risk .before in
+    let worked = columns .before in
+    let got = worked .before in
+    let start = got .before .before .before .before in
+    let site = start .args .site .now in
+    let place = start .args .place in
+    let p = start .args .p in
+    let out = start .args .out .now in
+    let pre = start .pre .0 in
+    let r = got .get-contaminant .result in
+    let k = worked .work .ensures in
+    let u = columns .columns-of .ensures .0 in
+    let v = columns .columns-of .ensures .1 in
+    let q : _≡_ {A = Contaminant} r _ = read-is site place r (got .get-contaminant .ensures) in
+    let g = guideline-is (pre .ready) (pre .passed) (read got) k u v in
+    let m = one-more (pre .ready) (pre .passed) (read got) k u v (omega (arith, pre .most)) (pre .runs) (c .add-shares .ensures) in (
+      subst (λ (x : Contaminant). NextRuns p x place (start .args .x) (c .add-shares .result)) q m,
+      written .put-result .ensures ∙
+      ap₂ (λ (x y : SideGuidelines). over (resultBlock place (r .class) (r .id) x y) out) (risk .decimals .ensures) (hazard .decimals2 .ensures) ∙
+      ap (λ (b : List ℕ). over b out) (block-is (p .scenario) (p .medium) site place r _ _ q g),
     )
 
 pub put-block-spec : {M : Type 1} → statement M
-put-block-spec = tie.close (tie.spec mul-at add-from add-to sub-get-contaminant part-get-contaminant-start part-get-contaminant-end get-contaminant-requires work-requires columns-of-requires decimals-requires decimals-requires-2 put-result-requires add-shares-requires same-length returns)
+put-block-spec =
+    tie.close
+    (tie.spec
+    mul-at
+    add-from
+    add-to
+    sub-get-contaminant
+    part-get-contaminant-start
+    part-get-contaminant-end
+    get-contaminant-requires
+    work-requires
+    columns-of-requires
+    decimals-requires
+    decimals-requires-2
+    put-result-requires
+    add-shares-requires
+    same-length
+    returns)

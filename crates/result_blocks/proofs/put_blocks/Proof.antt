@@ -25,7 +25,12 @@ no-runs-requires : tie.Need-no-runs-requires Inv-loop μ-loop
 no-runs-requires c κs = search needs
 
 loop-holds : tie.Need-loop-holds Inv-loop μ-loop
-loop-holds c = (along-first (c .before .before .before .args .p) (c .before .before .before .args .site .now) (c .before .before .before .args .count) (c .no-runs .ensures), none-written (c .before .before .before .args .p .scenario) (c .before .before .before .args .p .medium) (c .before .before .before .args .site .now) (c .before .before .before .args .out .now) (omega (arith, c .before .before .before .pre .1)))
+loop-holds c =
+    let start = c .before .before .before in
+    let a = start .args in (
+      along-first (a .p) (a .site .now) (a .count) (c .no-runs .ensures),
+      none-written (a .p .scenario) (a .p .medium) (a .site .now) (a .out .now) (omega (arith, start .pre .1)),
+    )
 
 add-place : tie.Need-add-place Inv-loop μ-loop
 add-place c = omega (arith, c .loop-test .taken, c .before .before .before .before .before .pre .0 .most)
@@ -45,39 +50,111 @@ sub-put-block c = search needs
 part-put-block-start : tie.Need-part-put-block-start Inv-loop μ-loop
 part-put-block-start c = search needs
 
+-- the output keeps its length while the blocks are written
+unwritten-long : (c : tie.In-loop Inv-loop μ-loop) → length (c .before .loop .out) ≡ length (c .before .before .before .before .before .args .out .now)
+unwritten-long c =
+    let at = c .before in
+    let start = at .before .before .before .before in
+    let a = start .args in
+    out-long (a .p .scenario) (a .p .medium) (a .site .now) (a .out .now) (at .loop .out) [] (at .loop .k)
+    (omega (arith, c .loop-test .taken, start .pre .1)) (at .loop .inv .1)
+
 part-put-block-end : tie.Need-part-put-block-end Inv-loop μ-loop
 part-put-block-end c =
-    let m : length (c .before .loop .out) ≡ length (c .before .before .before .before .before .args .out .now) = out-long (c .before .before .before .before .before .args .p .scenario) (c .before .before .before .before .before .args .p .medium) (c .before .before .before .before .before .args .site .now) (c .before .before .before .before .before .args .out .now) (c .before .loop .out) [] (c .before .loop .k) (omega (arith, c .loop-test .taken, c .before .before .before .before .before .pre .1)) (c .before .loop .inv .1) in
-    omega (arith, m, c .before .before .before .before .before .pre .1, c .loop-test .taken)
+    let start = c .before .before .before .before .before in
+    let m = unwritten-long c in
+    omega (arith, m, start .pre .1, c .loop-test .taken)
 
 put-block-requires : tie.Need-put-block-requires Inv-loop μ-loop
 put-block-requires c κs =
-    let k = c .before .before .loop .k in
-    let m : length (c .before .before .loop .out) ≡ length (c .before .before .before .before .before .before .args .out .now) = out-long (c .before .before .before .before .before .before .args .p .scenario) (c .before .before .before .before .before .before .args .p .medium) (c .before .before .before .before .before .before .args .site .now) (c .before .before .before .before .before .before .args .out .now) (c .before .before .loop .out) [] k (omega (arith, c .before .loop-test .taken, c .before .before .before .before .before .before .pre .1)) (c .before .before .loop .inv .1) in
+    let inside = c .before in
+    let at = inside .before in
+    let start = at .before .before .before .before in
+    let p = start .pre .0 in
+    let k = at .loop .k in
+    let below = inside .loop-test .taken in
+    let m = unwritten-long inside in
     let a : ℕ = 512 * (k + 1) in
-    let q : length (take (a + 512 - a) (drop a (c .before .before .loop .out))) ≡ a + 512 - a = length-take-le (a + 512 - a) (drop a (c .before .before .loop .out)) (simp length-drop (omega (arith, m, c .before .before .before .before .before .before .pre .1, c .before .loop-test .taken))) in
-    (record { ready = c .before .before .before .before .before .before .pre .0 .ready; passed = c .before .before .before .before .before .before .pre .0 .passed; long = omega (arith, c .before .before .before .before .before .before .pre .0 .long, c .before .loop-test .taken); most = omega (arith, c .before .before .before .before .before .before .pre .0 .most, c .before .loop-test .taken); ok = c .before .before .before .before .before .before .pre .0 .records (k + 1) (omega arith) (omega (arith, c .before .loop-test .taken)); runs = c .before .before .loop .inv .0 .ready }, omega (arith, q))
+    let rest = drop a (at .loop .out) in
+    let q : length (take (a + 512 - a) rest) ≡ a + 512 - a = length-take-le (a + 512 - a) rest (simp length-drop (omega (arith, m, start .pre .1, below))) in (
+      record {
+        ready = p .ready;
+        passed = p .passed;
+        long = omega (arith, p .long, below);
+        most = omega (arith, p .most, below);
+        ok = p .records (k + 1) (omega arith) (omega (arith, below));
+        runs = at .loop .inv .0 .ready;
+      },
+      omega (arith, q),
+    )
 
 add-k : tie.Need-add-k Inv-loop μ-loop
-add-k c = omega (arith, c .before .before .before .before .loop-test .taken, c .before .before .before .before .before .before .before .before .before .pre .0 .most)
+add-k c =
+    let inside = c .before .before .before .before in
+    omega (arith, inside .loop-test .taken, inside .before .before .before .before .before .pre .0 .most)
 
 loop-less : tie.Need-loop-less Inv-loop μ-loop
 loop-less c = omega (arith, c .before .before .before .before .loop-test .taken)
 
 loop-again : tie.Need-loop-again Inv-loop μ-loop
 loop-again c =
-    let k = c .before .before .before .before .before .loop .k in (
-      along-next (c .before .before .before .before .before .before .before .before .before .args .p) (c .before .before .before .before .before .before .before .before .before .args .site .now) (c .before .before .before .before .before .before .before .before .before .args .count) k (c .before .before .before .before .loop-test .taken) (c .before .before .before .before .before .loop .inv .0) (c .before .before .put-block .ensures .0),
-      block-lent (c .before .before .before .before .before .before .before .before .before .args .p .scenario) (c .before .before .before .before .before .before .before .before .before .args .p .medium) (c .before .before .before .before .before .before .before .before .before .args .site .now) (c .before .before .before .before .before .before .before .before .before .args .out .now) (c .before .before .before .before .before .loop .out) (c .before .before .put-block .last .1 .1 .1 .1 .0) k (omega (arith, c .before .before .before .before .loop-test .taken, c .before .before .before .before .before .before .before .before .before .pre .1)) (c .before .before .before .before .before .loop .inv .1) (512 * (k + 1)) (512 * (k + 1) + 512) refl refl (c .before .before .put-block .ensures .1),
+    let put = c .before .before in
+    let inside = put .before .before in
+    let at = inside .before in
+    let start = at .before .before .before .before in
+    let a = start .args in
+    let site = a .site .now in
+    let k = at .loop .k in
+    let below = inside .loop-test .taken in (
+      along-next (a .p) site (a .count) k below (at .loop .inv .0) (put .put-block .ensures .0),
+      block-lent (a .p .scenario) (a .p .medium) site (a .out .now) (at .loop .out) (put .put-block .last .1 .1 .1 .1 .0) k
+      (omega (arith, below, start .pre .1)) (at .loop .inv .1) (512 * (k + 1)) (512 * (k + 1) + 512) refl refl (put .put-block .ensures .1),
     )
 
 same-length : tie.Need-same-length Inv-loop μ-loop
-same-length c = ap length (c .before .loop .inv .1) ∙ over-length (take 512 (c .before .before .before .before .before .args .out .now) ++ resultsTo (c .before .before .before .before .before .args .p .scenario) (c .before .before .before .before .before .args .p .medium) (c .before .before .before .before .before .args .site .now) (c .before .loop .k)) (c .before .before .before .before .before .args .out .now) (omega (arith, length-append (take 512 (c .before .before .before .before .before .args .out .now)) (resultsTo (c .before .before .before .before .before .args .p .scenario) (c .before .before .before .before .before .args .p .medium) (c .before .before .before .before .before .args .site .now) (c .before .loop .k)), length-take-le 512 (c .before .before .before .before .before .args .out .now) (omega (arith, c .before .before .before .before .before .pre .1)), results-long (c .before .before .before .before .before .args .p .scenario) (c .before .before .before .before .before .args .p .medium) (c .before .before .before .before .before .args .site .now) (c .before .loop .k), c .before .before .before .before .before .pre .1, c .before .loop .inv .0 .place))
+same-length c =
+    let at = c .before in
+    let start = at .before .before .before .before in
+    let p = start .args .p in
+    let site = start .args .site .now in
+    let out = start .args .out .now in
+    let k = at .loop .k in
+    let first = take 512 out in
+    let results = resultsTo (p .scenario) (p .medium) site k in
+    let n = length-append first results in
+    let l = length-take-le 512 out (omega (arith, start .pre .1)) in
+    let r = results-long (p .scenario) (p .medium) site k in
+    ap length (at .loop .inv .1) ∙ over-length (first ++ results) out (omega (arith, n, l, r, start .pre .1, at .loop .inv .0 .place))
 
 returns : tie.Need-returns Inv-loop μ-loop
 returns c =
-    let e : c .before .loop .k ≡ c .before .before .before .before .before .args .count = omega (arith, c .before .loop .inv .0 .place, c .loop-test .left) in
-    (along-last (c .before .before .before .before .before .args .p) (c .before .before .before .before .before .args .site .now) (c .before .before .before .before .before .args .count) (c .before .loop .k) e (c .before .loop .inv .0), c .before .loop .inv .1 ∙ ap (λ (k : ℕ). over (take 512 (c .before .before .before .before .before .args .out .now) ++ resultsTo (c .before .before .before .before .before .args .p .scenario) (c .before .before .before .before .before .args .p .medium) (c .before .before .before .before .before .args .site .now) k) (c .before .before .before .before .before .args .out .now)) e)
+    let at = c .before in
+    let a = at .before .before .before .before .args in
+    let site = a .site .now in
+    let out = a .out .now in
+    let e : at .loop .k ≡ a .count = omega (arith, at .loop .inv .0 .place, c .loop-test .left) in (
+      along-last (a .p) site (a .count) (at .loop .k) e (at .loop .inv .0),
+      at .loop .inv .1 ∙ ap (λ (k : ℕ). over (take 512 out ++ resultsTo (a .p .scenario) (a .p .medium) site k) out) e,
+    )
 
 pub put-blocks-spec : {M : Type 1} → statement M
-put-blocks-spec = tie.close (tie.spec Inv-loop μ-loop no-runs-requires loop-holds add-place cast-a mul-a add-b sub-put-block part-put-block-start part-put-block-end put-block-requires add-k loop-less loop-again same-length returns)
+put-blocks-spec =
+    tie.close
+    (tie.spec
+    Inv-loop
+    μ-loop
+    no-runs-requires
+    loop-holds
+    add-place
+    cast-a
+    mul-a
+    add-b
+    sub-put-block
+    part-put-block-start
+    part-put-block-end
+    put-block-requires
+    add-k
+    loop-less
+    loop-again
+    same-length
+    returns)
