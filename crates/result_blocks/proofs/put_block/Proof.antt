@@ -130,8 +130,8 @@ returns c =
     let m = one-more (pre .ready) (pre .passed) (read got) k u v (omega (arith, pre .most)) (pre .runs) (c .add-shares .ensures) in (
       subst (λ (x : Contaminant). NextRuns p x place (start .args .x) (c .add-shares .result)) q m,
       written .put-result .ensures ∙
-      ap₂ (λ (x y : SideGuidelines). over (resultBlock place (r .class) (r .id) x y) out) (risk .decimals .ensures) (hazard .decimals2 .ensures) ∙
-      ap (λ (b : List ℕ). over b out) (block-is (p .scenario) (p .medium) site place r _ _ q g),
+          ap₂ (λ (x y : SideGuidelines). over (resultBlock place (r .class) (r .id) x y) out) (risk .decimals .ensures) (hazard .decimals2 .ensures) ∙
+          ap (λ (b : List ℕ). over b out) (block-is (p .scenario) (p .medium) site place r _ _ q g),
     )
 
 pub put-block-spec : {M : Type 1} → statement M

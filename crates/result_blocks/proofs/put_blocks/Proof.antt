@@ -108,7 +108,7 @@ loop-again c =
     let below = inside .loop-test .taken in (
       along-next (a .p) site (a .count) k below (at .loop .inv .0) (put .put-block .ensures .0),
       block-lent (a .p .scenario) (a .p .medium) site (a .out .now) (at .loop .out) (put .put-block .last .1 .1 .1 .1 .0) k
-      (omega (arith, below, start .pre .1)) (at .loop .inv .1) (512 * (k + 1)) (512 * (k + 1) + 512) refl refl (put .put-block .ensures .1),
+          (omega (arith, below, start .pre .1)) (at .loop .inv .1) (512 * (k + 1)) (512 * (k + 1) + 512) refl refl (put .put-block .ensures .1),
     )
 
 same-length : tie.Need-same-length Inv-loop μ-loop
