@@ -37,7 +37,9 @@ found-zero {c} e h = sym (ap (λ (x : Answer). numberOf (x .refusal)) e) ∙ eqb
 pub found-nonzero : {c d : Answer} → c ≡ d → eqb (numberOf (c .refusal)) 0 ≡ false → numberOf (d .refusal) ≡ 0 → ⊥
 found-nonzero {c} e h z = eqb-false (numberOf (c .refusal)) 0 h (ap (λ (x : Answer). numberOf (x .refusal)) e ∙ z)
 
-module _ {site : List ℕ} {h : Header} {p : Plan} (o : Opened site h) (z : numberOf (checkBlocks (h .scenario) (h .medium) site (h .count) 1 0 .refusal) ≡ 0) (b : Begun (h .scenario) (h .medium) (h .count) p) where
+module _ {site : List ℕ} {h : Header} {p : Plan} (o : Opened site h)
+    (z : numberOf (checkBlocks (h .scenario) (h .medium) site (h .count) 1 0 .refusal) ≡ 0)
+    (b : Begun (h .scenario) (h .medium) (h .count) p) where
   plan-accepted : numberOf (p .refusal) ≡ 0
   plan-accepted =
       ap numberOf (b .refused ∙ first-accepted (h .scenario) (h .medium) (h .count) (count-some o) (count-most o) (checking o .fits) (checking o .known))
@@ -57,7 +59,8 @@ module _ {site : List ℕ} {h : Header} {p : Plan} (o : Opened site h) (z : numb
     records = λ k l u. rw (same-scenario, same-medium) (checked-records o z k l u);
   }
 
-  module _ {a : SumsAnswer} (d : List ℕ) {out : List ℕ} (e : a ≡ allSums (p .scenario) (p .medium) (recordsFrom site (h .count) 1)) (w : out ≡ over (blocksOf (p .scenario) (p .medium) site (h .count) a) d) (room : length site ≤ length d) where
+  module _ {a : SumsAnswer} (d : List ℕ) {out : List ℕ} (e : a ≡ allSums (p .scenario) (p .medium) (recordsFrom site (h .count) 1))
+      (w : out ≡ over (blocksOf (p .scenario) (p .medium) site (h .count) a) d) (room : length site ≤ length d) where
     sums-are : a ≡ allSums (h .scenario) (h .medium) (recordsFrom site (h .count) 1)
     sums-are = e ∙ ap₂ (λ (s : Scenario) (m : ℕ). allSums s m (recordsFrom site (h .count) 1)) same-scenario same-medium
 
@@ -69,5 +72,7 @@ module _ {site : List ℕ} {h : Header} {p : Plan} (o : Opened site h) (z : numb
 
     pub left-length : length out ≡ length d
     left-length =
-        ap length w ∙ over-length (blocksOf (p .scenario) (p .medium) site (h .count) a) d
-        (omega (arith, length-append (summaryBlock (a .risk) (a .hazard)) (resultsTo (p .scenario) (p .medium) site (h .count)), summary-length (a .risk) (a .hazard), results-long (p .scenario) (p .medium) site (h .count), site-long o, room))
+        let blocks = blocksOf (p .scenario) (p .medium) site (h .count) a in
+        let n = length-append (summaryBlock (a .risk) (a .hazard)) (resultsTo (p .scenario) (p .medium) site (h .count)) in
+        let l = results-long (p .scenario) (p .medium) site (h .count) in
+        ap length w ∙ over-length blocks d (omega (arith, n, summary-length (a .risk) (a .hazard), l, site-long o, room))
