@@ -15,19 +15,30 @@ same-length : tie.Need-same-length
 same-length c = search needs
 
 returns : tie.Need-returns
-returns c = put-same (c .before .before .before .before .before .before .args .out .now) (c .before .before .before .before .before .before .args .at) (one-line (c .before .before .before .before .before .before .args .class) (c .before .before .before .before .before .before .args .id) (c .before .before .before .before .before .before .args .risk) (c .before .before .before .before .before .before .args .hazard) (c .if1 .taken)) (c .before .before .before .put-line .ensures)
+returns c =
+    let put = c .before .before .before in
+    let a = put .before .before .before .args in
+    put-same (a .out .now) (a .at) (one-line (a .class) (a .id) (a .risk) (a .hazard) (c .if1 .taken)) (put .put-line .ensures)
 
 put-line-requires-2 : tie.Need-put-line-requires-2
-put-line-requires-2 c κs = omega (arith, line-most (c .before .before .before .before .before .before .before .args .id) 0 (c .before .before .before .before .before .before .before .args .risk))
+put-line-requires-2 c κs =
+    let put = c .before .before .before .before in
+    let a = put .before .before .before .args in
+    omega (arith, line-most (a .id) 0 (a .risk))
 
 same-length-2 : tie.Need-same-length-2
 same-length-2 c = search needs
 
 returns-2 : tie.Need-returns-2
 returns-2 c =
-    let a = c .before .before .before .before .before .before .before .before .before .before .args in
-    let first = begun (a .out .now) (lineOf (a .id) 0 (a .risk)) (a .at) (omega (arith, c .before .before .before .before .before .before .before .before .before .before .pre)) (c .before .before .before .before .before .before .before .put-line .ensures) in
-    put-same (a .out .now) (a .at) (two-lines (a .class) (a .id) (a .risk) (a .hazard) (c .before .before .before .before .if1 .left)) (all (then first (lineOf (a .id) 1 (a .hazard)) (c .before .before .put-line2 .ensures)))
+    let at-hazard = c .before .before in
+    let chemical = at-hazard .before .before in
+    let at-risk = chemical .before .before .before in
+    let start = at-risk .before .before .before in
+    let a = start .args in
+    let risk = begun (a .out .now) (lineOf (a .id) 0 (a .risk)) (a .at) (omega (arith, start .pre)) (at-risk .put-line .ensures) in
+    let both = then risk (lineOf (a .id) 1 (a .hazard)) (at-hazard .put-line2 .ensures) in
+    put-same (a .out .now) (a .at) (two-lines (a .class) (a .id) (a .risk) (a .hazard) (chemical .if1 .left)) (all both)
 
 pub put-lines-spec : {M : Type 1} → statement M
 put-lines-spec = tie.close (tie.spec put-line-requires same-length returns put-line-requires-2 same-length-2 returns-2)

@@ -17,7 +17,11 @@ same-length : tie.Need-same-length
 same-length c = search needs
 
 returns : tie.Need-returns
-returns c = put-next (c .before .before .before .before .before .before .before .before .before .args .out .now) (32 ∷ []) (orElse (c .before .before .before .before .before .before .before .before .before .args .mark) (c .before .before .before .before .before .before .before .before .before .args .d)) (c .before .before .before .before .before .before .before .before .before .args .at) (omega arith) (c .before .before .before .before .before .before .put-byte .ensures) (c .before .before .put-decimal .ensures)
+returns c =
+    let at-decimal = c .before .before in
+    let at-space = at-decimal .before .before .before .before in
+    let a = at-space .before .before .before .args in
+    put-next (a .out .now) (32 ∷ []) (orElse (a .mark) (a .d)) (a .at) (omega arith) (at-space .put-byte .ensures) (at-decimal .put-decimal .ensures)
 
 pub put-spaced-spec : {M : Type 1} → statement M
 put-spaced-spec = tie.close (tie.spec put-byte-requires put-decimal-requires same-length returns)
