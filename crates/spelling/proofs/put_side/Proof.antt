@@ -15,7 +15,11 @@ same-length : tie.Need-same-length
 same-length c = search needs
 
 returns : tie.Need-returns
-returns c = put-same (c .before .before .before .before .before .before .before .args .out .now) (c .before .before .before .before .before .before .before .args .at) (risk-word (c .before .before .before .before .before .if1 .taken)) (c .before .before .put-word .ensures)
+returns c =
+    let put = c .before .before in
+    let risk = put .before .before .before in
+    let a = risk .before .before .args in
+    put-same (a .out .now) (a .at) (risk-word (risk .if1 .taken)) (put .put-word .ensures)
 
 slice-aggregate-put-word-2 : tie.Need-slice-aggregate-put-word-2
 slice-aggregate-put-word-2 c = search needs
@@ -27,7 +31,21 @@ same-length-2 : tie.Need-same-length-2
 same-length-2 c = search needs
 
 returns-2 : tie.Need-returns-2
-returns-2 c = put-same (c .before .before .before .before .before .before .before .args .out .now) (c .before .before .before .before .before .before .before .args .at) (hazard-word (c .before .before .before .before .before .before .before .args .side) (c .before .before .before .before .before .if1 .left)) (c .before .before .put-word2 .ensures)
+returns-2 c =
+    let put = c .before .before in
+    let hazard = put .before .before .before in
+    let a = hazard .before .before .args in
+    put-same (a .out .now) (a .at) (hazard-word (a .side) (hazard .if1 .left)) (put .put-word2 .ensures)
 
 pub put-side-spec : {M : Type 1} → statement M
-put-side-spec = tie.close (tie.spec slice-aggregate-put-word put-word-requires same-length returns slice-aggregate-put-word-2 put-word-requires-2 same-length-2 returns-2)
+put-side-spec =
+    tie.close
+    (tie.spec
+    slice-aggregate-put-word
+    put-word-requires
+    same-length
+    returns
+    slice-aggregate-put-word-2
+    put-word-requires-2
+    same-length-2
+    returns-2)

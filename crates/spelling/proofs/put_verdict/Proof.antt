@@ -49,31 +49,75 @@ put-word-requires-4 : tie.Need-put-word-requires-4
 put-word-requires-4 c κs = search needs
 
 returns : tie.Need-returns
-returns c = put-same (c .before .before .before .args .out .now) (c .before .before .before .args .at) (sym (ap verdictWord (c .enum-told .given .1))) (sym (add-zero (c .before .before .before .args .at)), placed-none (c .before .before .before .args .out .now) (c .before .before .before .args .at) (omega (arith, c .before .before .before .pre)))
+returns c =
+    let start = c .before .before .before in
+    let a = start .args in
+    put-same (a .out .now) (a .at) (sym (ap verdictWord (c .enum-told .given .1)))
+    (sym (add-zero (a .at)), placed-none (a .out .now) (a .at) (omega (arith, start .pre)))
 
 same-length : tie.Need-same-length
 same-length c = search needs
 
 returns-2 : tie.Need-returns-2
-returns-2 c = put-same (c .before .before .before .before .before .before .before .before .args .out .now) (c .before .before .before .before .before .before .before .before .args .at) (sym (ap verdictWord (c .before .before .before .before .before .enum-told2 .given .1))) (c .before .before .put-word .ensures)
+returns-2 c =
+    let put = c .before .before in
+    let told = put .before .before .before in
+    let a = told .before .before .before .args in
+    put-same (a .out .now) (a .at) (sym (ap verdictWord (told .enum-told2 .given .1))) (put .put-word .ensures)
 
 same-length-2 : tie.Need-same-length-2
 same-length-2 c = search needs
 
 returns-3 : tie.Need-returns-3
-returns-3 c = put-same (c .before .before .before .before .before .before .before .before .args .out .now) (c .before .before .before .before .before .before .before .before .args .at) (sym (ap verdictWord (c .before .before .before .before .before .enum-told3 .given .1))) (c .before .before .put-word2 .ensures)
+returns-3 c =
+    let put = c .before .before in
+    let told = put .before .before .before in
+    let a = told .before .before .before .args in
+    put-same (a .out .now) (a .at) (sym (ap verdictWord (told .enum-told3 .given .1))) (put .put-word2 .ensures)
 
 same-length-3 : tie.Need-same-length-3
 same-length-3 c = search needs
 
 returns-4 : tie.Need-returns-4
-returns-4 c = put-same (c .before .before .before .before .before .before .before .before .args .out .now) (c .before .before .before .before .before .before .before .before .args .at) (sym (ap verdictWord (c .before .before .before .before .before .enum-told4 .given .1))) (c .before .before .put-word3 .ensures)
+returns-4 c =
+    let put = c .before .before in
+    let told = put .before .before .before in
+    let a = told .before .before .before .args in
+    put-same (a .out .now) (a .at) (sym (ap verdictWord (told .enum-told4 .given .1))) (put .put-word3 .ensures)
 
 same-length-4 : tie.Need-same-length-4
 same-length-4 c = search needs
 
 returns-5 : tie.Need-returns-5
-returns-5 c = put-same (c .before .before .before .before .before .before .before .before .args .out .now) (c .before .before .before .before .before .before .before .before .args .at) (sym (ap verdictWord (c .before .before .before .before .before .enum-told5 .given .1))) (c .before .before .put-word4 .ensures)
+returns-5 c =
+    let put = c .before .before in
+    let told = put .before .before .before in
+    let a = told .before .before .before .args in
+    put-same (a .out .now) (a .at) (sym (ap verdictWord (told .enum-told5 .given .1))) (put .put-word4 .ensures)
 
 pub put-verdict-spec : {M : Type 1} → statement M
-put-verdict-spec = tie.close (tie.spec enum-told enum-told-2 slice-aggregate-put-word put-word-requires enum-told-3 slice-aggregate-put-word-2 put-word-requires-2 enum-told-4 slice-aggregate-put-word-3 put-word-requires-3 enum-told-5 slice-aggregate-put-word-4 put-word-requires-4 returns same-length returns-2 same-length-2 returns-3 same-length-3 returns-4 same-length-4 returns-5)
+put-verdict-spec =
+    tie.close
+    (tie.spec
+    enum-told
+    enum-told-2
+    slice-aggregate-put-word
+    put-word-requires
+    enum-told-3
+    slice-aggregate-put-word-2
+    put-word-requires-2
+    enum-told-4
+    slice-aggregate-put-word-3
+    put-word-requires-3
+    enum-told-5
+    slice-aggregate-put-word-4
+    put-word-requires-4
+    returns
+    same-length
+    returns-2
+    same-length-2
+    returns-3
+    same-length-3
+    returns-4
+    same-length-4
+    returns-5)

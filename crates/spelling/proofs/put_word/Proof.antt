@@ -25,7 +25,11 @@ add-out : tie.Need-add-out Inv-loop μ-loop
 add-out c = search needs
 
 slice-write-out : tie.Need-slice-write-out Inv-loop μ-loop
-slice-write-out c = omega (arith, word-long (c .before .before .before .args .out .now) (c .before .before .before .args .word .now) (c .before .before .before .args .at) (c .before .before .before .pre) (c .before .before .loop .i) (c .before .before .loop .inv .1) (c .before .before .loop .inv .0))
+slice-write-out c =
+    let at = c .before .before in
+    let start = at .before in
+    let a = start .args in
+    omega (arith, word-long (a .out .now) (a .word .now) (a .at) (start .pre) (at .loop .i) (at .loop .inv .1) (at .loop .inv .0))
 
 add-i : tie.Need-add-i Inv-loop μ-loop
 add-i c = search needs
@@ -34,16 +38,29 @@ loop-less : tie.Need-loop-less Inv-loop μ-loop
 loop-less c = search needs
 
 loop-again : tie.Need-loop-again Inv-loop μ-loop
-loop-again c = (omega arith, word-next (c .before .before .before .args .out .now) (c .before .before .before .args .word .now) (c .before .before .before .args .at) (c .before .before .before .pre) (c .before .before .loop .i) (c .before .before .loop .inv .1) (c .before .loop-test .taken))
+loop-again c =
+    let inside = c .before in
+    let at = inside .before in
+    let start = at .before in
+    let a = start .args in
+    (omega arith, word-next (a .out .now) (a .word .now) (a .at) (start .pre) (at .loop .i) (at .loop .inv .1) (inside .loop-test .taken))
 
 add-result : tie.Need-add-result Inv-loop μ-loop
 add-result c = search needs
 
 same-length : tie.Need-same-length Inv-loop μ-loop
-same-length c = word-long (c .before .before .args .out .now) (c .before .before .args .word .now) (c .before .before .args .at) (c .before .before .pre) (c .before .loop .i) (c .before .loop .inv .1) (c .before .loop .inv .0)
+same-length c =
+    let at = c .before in
+    let start = at .before in
+    let a = start .args in
+    word-long (a .out .now) (a .word .now) (a .at) (start .pre) (at .loop .i) (at .loop .inv .1) (at .loop .inv .0)
 
 returns : tie.Need-returns Inv-loop μ-loop
-returns c = word-all (c .before .before .args .out .now) (c .before .before .args .word .now) (c .before .before .args .at) (c .before .before .pre) (c .before .loop .i) (c .before .loop .inv .1) (omega arith)
+returns c =
+    let at = c .before in
+    let start = at .before in
+    let a = start .args in
+    word-all (a .out .now) (a .word .now) (a .at) (start .pre) (at .loop .i) (at .loop .inv .1) (omega arith)
 
 pub put-word-spec : {M : Type 1} → statement M
 put-word-spec = tie.close (tie.spec Inv-loop μ-loop loop-holds shared-slice-read-out add-out slice-write-out add-i loop-less loop-again add-result same-length returns)
