@@ -40,7 +40,8 @@ module _ (s : Scenario) (medium : ℕ) (site : List ℕ) where
   results-long (suc n) = length-append (resultsTo s medium site n) (resultAt s medium site (suc n)) ∙ omega (arith, results-long n, result-long (suc n))
 
   -- it is the last, or by `again` one before
-  last-or-before : (n k : ℕ) (p q : List ℕ) → length p ≡ 512 → k ≤ suc n → (k ≤ n → partOf ((p ++ resultsTo s medium site n) ++ (resultAt s medium site (suc n) ++ q)) (512 * k) 512 ≡ resultAt s medium site k) →
+  last-or-before : (n k : ℕ) (p q : List ℕ) → length p ≡ 512 → k ≤ suc n →
+      (k ≤ n → partOf ((p ++ resultsTo s medium site n) ++ (resultAt s medium site (suc n) ++ q)) (512 * k) 512 ≡ resultAt s medium site k) →
       (b : Bool) → eqb k (suc n) ≡ b → partOf ((p ++ resultsTo s medium site n) ++ (resultAt s medium site (suc n) ++ q)) (512 * k) 512 ≡ resultAt s medium site k
   last-or-before n k p q e u again true h =
       let t = eqb-true k (suc n) h in
