@@ -61,7 +61,8 @@ module _ (s : Scenario) (medium : ℕ) (side : Side) (dir : Direction) where
   shares (r ∷ rs) (also a as′) = one-more (share-bounds s medium side dir r a) (shares rs as′)
 
   -- THE SUM of up to 120 shares: one rounding more for each
-  pub list-bounds : (rs : List Contaminant) → AllAccepted s medium rs → length rs ≤ 120 → Fair dir sumRoundings sumWidth (added dir zeroOf (map (λ (r : Contaminant). shareOf s medium r dir side) rs)) (exactSum s medium side rs)
+  pub list-bounds : (rs : List Contaminant) → AllAccepted s medium rs → length rs ≤ 120 →
+      Fair dir sumRoundings sumWidth (added dir zeroOf (map (λ (r : Contaminant). shareOf s medium r dir side) rs)) (exactSum s medium side rs)
   list-bounds rs as′ h =
       let n = length-map rs (λ (r : Contaminant). shareOf s medium r dir side) in
       fair-most dir (omega (arith, n)) (omega (arith, n)) (sum-fair dir (le-refl shareRoundings) (le-refl shareWidth) (omega (arith, n)) (none refl refl (lit< tt)) (shares rs as′))
