@@ -19,7 +19,12 @@ either-requires-3 : tie.Need-either-requires-3
 either-requires-3 c κs = search needs
 
 returns : tie.Need-returns
-returns c = rw (c .either3 .ensures, c .before .both2 .ensures, c .before .before .both .ensures, c .before .before .before .either2 .ensures, c .before .before .before .before .before .before .either .ensures)
+returns c =
+    let joined = c .before in
+    let both = joined .before in
+    let second = both .before in
+    let first = second .before .before .before in
+    rw (c .either3 .ensures, joined .both2 .ensures, both .both .ensures, second .either2 .ensures, first .either .ensures)
 
 pub chemical-spec : {M : Type 1} → statement M
 chemical-spec =

@@ -26,7 +26,8 @@ returns c =
     let at-all-three = at-all-three2 .before .before .before .before in
     let at-both = at-all-three .before .before .before .before in
     let start = at-both .before .before .before in
-    rw (c .either2 .ensures, at-either .either .ensures, at-all-three2 .all-three2 .ensures, at-all-three .all-three .ensures, at-both .both .ensures) (soil-radionuclide (start .args .s) (start .args .r) (start .pre))
+    rw (c .either2 .ensures, at-either .either .ensures, at-all-three2 .all-three2 .ensures, at-all-three .all-three .ensures, at-both .both .ensures)
+    (soil-radionuclide (start .args .s) (start .args .r) (start .pre))
 
 pub soil-radionuclide-spec : {M : Type 1} → statement M
 soil-radionuclide-spec =
