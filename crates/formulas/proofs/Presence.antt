@@ -65,7 +65,8 @@ module _ (dir : Direction) (vs : List Decimal) (each : (n : ℕ) → Value (widt
   after-zero p [] h k = absurd (let z : _≡_ {A = ℕ} 0 1 = cc in omega arith)
   after-zero p (n ∷ ns) h k = ap (λ (d : Decimal). divOf p d dir) (product-zero (opposite dir) (n ∷ ns) h k) ∙ div-zero dir p
 
-  absent-zero : (bs as′ : List ℕ) → widthIn bs ≤ 980 → widthIn as′ ≤ 980 → (b c : Bool) → hasFactors bs && known vs bs ≡ b → known vs as′ ≡ c → b && c ≡ false → dividedOf dir (productOf dir (map (look vs) bs)) (map (look vs) as′) ≡ zeroOf
+  absent-zero : (bs as′ : List ℕ) → widthIn bs ≤ 980 → widthIn as′ ≤ 980 → (b c : Bool) → hasFactors bs && known vs bs ≡ b → known vs as′ ≡ c → b && c ≡ false →
+      dividedOf dir (productOf dir (map (look vs) bs)) (map (look vs) as′) ≡ zeroOf
   absent-zero bs as′ h k false c e f g = ap (λ (d : Decimal). dividedOf dir d (map (look vs) as′)) (product-zero dir bs h e) ∙ divided-zero (map (look vs) as′)
   absent-zero bs as′ h k true false e f g = after-zero _ as′ k f
   absent-zero bs as′ h k true true e f g = absurd (let z : _≡_ {A = ℕ} 0 1 = cc in omega arith)
@@ -76,7 +77,11 @@ module _ (dir : Direction) (vs : List Decimal) (each : (n : ℕ) → Value (widt
   term-evaluated f s l = cases (presentOf vs f) refl
     where
       zero-now : presentOf vs f ≡ false → evaluated vs dir f ≡ zeroOf
-      zero-now e = absent-zero (f .before) (f .after) (omega (arith, s .wide)) (omega (arith, s .wide)) (hasFactors (f .before) && known vs (f .before)) (known vs (f .after)) refl refl (and-assoc (hasFactors (f .before)) (known vs (f .before)) (known vs (f .after)) ∙ e)
+      zero-now e =
+          let some = hasFactors (f .before) in
+          let above = known vs (f .before) in
+          let below = known vs (f .after) in
+          absent-zero (f .before) (f .after) (omega (arith, s .wide)) (omega (arith, s .wide)) (some && above) below refl refl (and-assoc some above below ∙ e)
 
       cases : (b : Bool) → presentOf vs f ≡ b → cond b (evaluated vs dir f) zeroOf ≡ evaluated vs dir f
       cases true e = refl

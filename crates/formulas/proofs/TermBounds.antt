@@ -82,12 +82,16 @@ module _ (dir : Direction) (vs : List Decimal) (qs : List Fraction) (r : Represe
 
     cases : (n : ℕ) (ns as′ : List ℕ) → Sound K W (record { before = n ∷ ns; after = as′ }) → (a b : Bool) → exactKnown qs (n ∷ ns) ≡ a → exactKnown qs as′ ≡ b →
         Bounded dir K W (a && b) (dividedOf dir (productOf dir (map (look vs) (n ∷ ns))) (map (look vs) as′)) (exactDivided (exactProduct (map (exactly qs) (n ∷ ns))) (map (exactly qs) as′))
-    cases n ns as′ o true true h g = let f = divided-approx n ns as′ o h g in record { fair = some f; some-top = ap not (ne-eqb (exactDivided (exactProduct (map (exactly qs) (n ∷ ns))) (map (exactly qs) as′) .top) 0 (omega (arith, f .top))) }
+    cases n ns as′ o true true h g =
+        let f = divided-approx n ns as′ o h g in
+        let q = exactDivided (exactProduct (map (exactly qs) (n ∷ ns))) (map (exactly qs) as′) in
+        record { fair = some f; some-top = ap not (ne-eqb (q .top) 0 (omega (arith, f .top))) }
     cases n ns as′ o true false h g = absent dir K W _ _
     cases n ns as′ o false b h g = absent dir K W _ _
 
     bounded : (bs as′ : List ℕ) → Sound K W (record { before = bs; after = as′ }) →
-        Bounded dir K W (hasFactors bs && (exactKnown qs bs && exactKnown qs as′)) (dividedOf dir (productOf dir (map (look vs) bs)) (map (look vs) as′)) (exactDivided (exactProduct (map (exactly qs) bs)) (map (exactly qs) as′))
+        Bounded dir K W (hasFactors bs && (exactKnown qs bs && exactKnown qs as′)) (dividedOf dir (productOf dir (map (look vs) bs)) (map (look vs) as′))
+        (exactDivided (exactProduct (map (exactly qs) bs)) (map (exactly qs) as′))
     bounded [] as′ o = absent dir K W _ _
     bounded (n ∷ ns) as′ o = cases n ns as′ o (exactKnown qs (n ∷ ns)) (exactKnown qs as′) refl refl
 
@@ -105,7 +109,8 @@ module _ (dir : Direction) (vs : List Decimal) (qs : List Fraction) (r : Represe
     terms-fair (f ∷ fs) (one-formula o os) = one-summand (term-fair f o) (terms-fair fs os)
 
     -- THE TOTAL of any list of terms
-    pub total-fair : (fs : List Formula) → Sounds K W fs → W + length (map (termOf vs dir) fs) ≤ 980 → Fair dir (K + length (map (termOf vs dir) fs)) (W + length (map (termOf vs dir) fs)) (totalOf vs dir fs) (exactTotal qs fs)
+    pub total-fair : (fs : List Formula) → Sounds K W fs → W + length (map (termOf vs dir) fs) ≤ 980 →
+        Fair dir (K + length (map (termOf vs dir) fs)) (W + length (map (termOf vs dir) fs)) (totalOf vs dir fs) (exactTotal qs fs)
     unfolding totalOf exactTotal
     total-fair fs os h = skip-fair dir (le-refl K) (le-refl W) h (none refl refl (lit< tt)) (terms-fair fs os)
 

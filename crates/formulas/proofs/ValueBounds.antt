@@ -46,23 +46,29 @@ pub shorter : (n k : ℕ) (b : Bool) → ltb (suc n) (suc k) ≡ b → ltb n k �
 shorter n k true e = lt-ltb n k (omega (arith, ltb-true (suc n) (suc k) e))
 shorter n k false e = le-ltb n k (omega (arith, ltb-false (suc n) (suc k) e))
 
-front-own : (dir : Direction) {ds : List Decimal} {qs : List Fraction} → Front dir ds qs → (ws : List Decimal) (gs : List Fraction) → ((n : ℕ) → Fair dir 0 inputWidth (look ws n) (exactly gs n)) → Places dir (length ds) (ds ++ ws) (qs ++ gs)
+front-own : (dir : Direction) {ds : List Decimal} {qs : List Fraction} → Front dir ds qs → (ws : List Decimal) (gs : List Fraction) →
+    ((n : ℕ) → Fair dir 0 inputWidth (look ws n) (exactly gs n)) → Places dir (length ds) (ds ++ ws) (qs ++ gs)
 front-own dir end ws gs h n true e = absurd (omega (arith, ltb-true n 0 e))
 front-own dir end ws gs h n false e = h n
 front-own dir (next f fs) ws gs h zero true e = f
 front-own dir (next {ds = ds} f fs) ws gs h zero false e = absurd (omega (arith, ltb-false 0 (suc (length ds)) e))
 front-own dir (next {ds = ds} f fs) ws gs h (suc n) b e = front-own dir fs ws gs h n b (shorter n (length ds) b e)
 
-front-other : (dir : Direction) {ds : List Decimal} {qs : List Fraction} → Front dir ds qs → (ws : List Decimal) (gs : List Fraction) → ((n : ℕ) → Fair (opposite dir) 0 inputWidth (look ws n) (exactly gs n)) → (n : ℕ) → ltb n (length ds) ≡ false → Fair (opposite dir) 0 inputWidth (look (ds ++ ws) n) (exactly (qs ++ gs) n)
+front-other : (dir : Direction) {ds : List Decimal} {qs : List Fraction} → Front dir ds qs → (ws : List Decimal) (gs : List Fraction) →
+    ((n : ℕ) → Fair (opposite dir) 0 inputWidth (look ws n) (exactly gs n)) → (n : ℕ) → ltb n (length ds) ≡ false → Fair (opposite dir) 0 inputWidth (look (ds ++ ws) n) (exactly (qs ++ gs) n)
 front-other dir end ws gs h n e = h n
 front-other dir (next {ds = ds} f fs) ws gs h zero e = absurd (omega (arith, ltb-false 0 (suc (length ds)) e))
 front-other dir (next {ds = ds} f fs) ws gs h (suc n) e = front-other dir fs ws gs h n (shorter n (length ds) false e)
 
-fronted : (dir : Direction) (l : List Decimal) → allValid l ≡ true → {ds : List Decimal} {qs : List Fraction} → length ds ≡ derivedPlaces → Front dir ds qs → Represents dir (ds ++ map workingOf l) (qs ++ map given l)
-fronted dir l v {ds} {qs} long f = record { own = λ n. own n (isDerived n) refl; other = λ n h. front-other dir f (map workingOf l) (map given l) (inputs-fair (opposite dir) l v) n (ap (λ (k : ℕ). ltb n k) long ∙ h) }
+fronted : (dir : Direction) (l : List Decimal) → allValid l ≡ true → {ds : List Decimal} {qs : List Fraction} → length ds ≡ derivedPlaces → Front dir ds qs →
+    Represents dir (ds ++ map workingOf l) (qs ++ map given l)
+fronted dir l v {ds} {qs} long f = record { own = λ n. own n (isDerived n) refl; other = other }
   where
     own : (n : ℕ) (b : Bool) → isDerived n ≡ b → Fair dir (cond b workedRoundings 0) (cond b workedWidth inputWidth) (look (ds ++ map workingOf l) n) (exactly (qs ++ map given l) n)
     own n b e = front-own dir f (map workingOf l) (map given l) (inputs-fair dir l v) n b (ap (λ (k : ℕ). ltb n k) long ∙ e)
+
+    other : (n : ℕ) → isDerived n ≡ false → Fair (opposite dir) 0 inputWidth (look (ds ++ map workingOf l) n) (exactly (qs ++ map given l) n)
+    other n e = front-other dir f (map workingOf l) (map given l) (inputs-fair (opposite dir) l v) n (ap (λ (k : ℕ). ltb n k) long ∙ e)
 
 -- nothing is known of them yet
 zero-front : (dir : Direction) (fss : List (List Formula)) → Front dir (map (λ (fs : List Formula). zeroOf) fss) (map (λ (fs : List Formula). nothing) fss)
@@ -70,11 +76,13 @@ zero-front dir [] = end
 zero-front dir (fs ∷ fss) = next (none refl refl (lit< tt)) (zero-front dir fss)
 
 -- each is the total of its parts
-total-front : (dir : Direction) (vs : List Decimal) (qs : List Fraction) → Represents dir vs qs → (fss : List (List Formula)) → Every partRoundings partWidth fss → Front dir (map (totalOf vs dir) fss) (map (exactTotal qs) fss)
+total-front : (dir : Direction) (vs : List Decimal) (qs : List Fraction) → Represents dir vs qs → (fss : List (List Formula)) →
+    Every partRoundings partWidth fss → Front dir (map (totalOf vs dir) fss) (map (exactTotal qs) fss)
 total-front dir vs qs r [] no-tables = end
 total-front dir vs qs r (fs ∷ fss) (one-table s short e) =
     let n = length-map fs (termOf vs dir) in
-    next (fair-most dir (omega (arith, short, n)) (omega (arith, short, n)) (total-fair dir vs qs r {K = partRoundings} {W = partWidth} (lit≤ tt) fs s (omega (arith, short, n)))) (total-front dir vs qs r fss e)
+    let total = total-fair dir vs qs r {K = partRoundings} {W = partWidth} (lit≤ tt) fs s (omega (arith, short, n)) in
+    next (fair-most dir (omega (arith, short, n)) (omega (arith, short, n)) total) (total-front dir vs qs r fss e)
 
 -- the inputs, with nothing worked out yet
 pub plain-stand : (dir : Direction) (l : List Decimal) → allValid l ≡ true → Represents dir (plainValues l) (exactPlain l)
