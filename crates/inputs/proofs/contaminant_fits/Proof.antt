@@ -16,7 +16,11 @@ both-requires-2 : tie.Need-both-requires-2
 both-requires-2 c κs = search needs
 
 returns : tie.Need-returns
-returns c = rw (c .both2 .ensures, c .before .both .ensures, c .before .before .before .before .one-or-two .ensures, c .before .before .valid-contaminant .ensures)
+returns c =
+    let joined = c .before in
+    let valid = joined .before in
+    let class = valid .before .before in
+    rw (c .both2 .ensures, joined .both .ensures, class .one-or-two .ensures, valid .valid-contaminant .ensures)
 
 pub contaminant-fits-spec : {M : Type 1} → statement M
 contaminant-fits-spec =

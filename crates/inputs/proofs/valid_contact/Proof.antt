@@ -49,7 +49,34 @@ returns c =
     let v3 = v4 .before in
     let v2 = v3 .before in
     let v1 = v2 .before in
-    rw (and-true, c .both5 .ensures, b4 .both4 .ensures, b3 .both3 .ensures, b2 .both2 .ensures, b1 .both .ensures, v6 .valid6 .ensures, v5 .valid5 .ensures, v4 .valid4 .ensures, v3 .valid3 .ensures, v2 .valid2 .ensures, v1 .valid .ensures)
+    rw (
+      and-true,
+      c .both5 .ensures,
+      b4 .both4 .ensures,
+      b3 .both3 .ensures,
+      b2 .both2 .ensures,
+      b1 .both .ensures,
+      v6 .valid6 .ensures,
+      v5 .valid5 .ensures,
+      v4 .valid4 .ensures,
+      v3 .valid3 .ensures,
+      v2 .valid2 .ensures,
+      v1 .valid .ensures,
+    )
 
 pub valid-contact-spec : {M : Type 1} → statement M
-valid-contact-spec = tie.close (tie.spec valid-requires valid-requires-2 valid-requires-3 valid-requires-4 valid-requires-5 valid-requires-6 both-requires both-requires-2 both-requires-3 both-requires-4 both-requires-5 returns)
+valid-contact-spec =
+    tie.close
+    (tie.spec
+    valid-requires
+    valid-requires-2
+    valid-requires-3
+    valid-requires-4
+    valid-requires-5
+    valid-requires-6
+    both-requires
+    both-requires-2
+    both-requires-3
+    both-requires-4
+    both-requires-5
+    returns)

@@ -29,8 +29,10 @@ returns c =
     let valid = joined .before in
     let transfer = valid .before in
     let toxicity = transfer .before in
-    let v = toxicity .before .args in
-    rw (c .both2 .ensures, joined .both .ensures, valid .valid .ensures, transfer .valid-transfer .ensures, toxicity .valid-toxicity .ensures) (sym (valid-join (formulaDecimals (v .r)) (v .r .c ∷ []) ∙ ap₂ (λ (a b : Bool). a && b) (valid-join (toxicityDecimals (v .r .toxicity)) (transferDecimals (v .r .transfer))) (and-true _)))
+    let r = toxicity .before .args .r in
+    let lists = valid-join (toxicityDecimals (r .toxicity)) (transferDecimals (r .transfer)) in
+    rw (c .both2 .ensures, joined .both .ensures, valid .valid .ensures, transfer .valid-transfer .ensures, toxicity .valid-toxicity .ensures)
+    (sym (valid-join (formulaDecimals r) (r .c ∷ []) ∙ ap₂ (λ (a b : Bool). a && b) lists (and-true _)))
 
 pub valid-contaminant-spec : {M : Type 1} → statement M
 valid-contaminant-spec = tie.close (tie.spec valid-toxicity-requires valid-transfer-requires valid-requires both-requires both-requires-2 returns)

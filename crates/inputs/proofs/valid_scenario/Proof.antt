@@ -27,8 +27,9 @@ returns c =
     let targets = joined .before in
     let contact = targets .before in
     let exposure = contact .before in
-    let v = exposure .before .args in
-    rw (c .both2 .ensures, joined .both .ensures, targets .valid-targets .ensures, contact .valid-contact .ensures, exposure .valid-exposure .ensures) (sym (valid-join3 (exposureDecimals (v .s .exposure)) (contactDecimals (v .s .contact)) (targetDecimals (v .s .targets))))
+    let s = exposure .before .args .s in
+    rw (c .both2 .ensures, joined .both .ensures, targets .valid-targets .ensures, contact .valid-contact .ensures, exposure .valid-exposure .ensures)
+    (sym (valid-join3 (exposureDecimals (s .exposure)) (contactDecimals (s .contact)) (targetDecimals (s .targets))))
 
 pub valid-scenario-spec : {M : Type 1} → statement M
 valid-scenario-spec = tie.close (tie.spec valid-exposure-requires valid-contact-requires valid-targets-requires both-requires both-requires-2 returns)
