@@ -11,7 +11,7 @@ use borrow.Author.Needs.{needs}
 use Rattle.lines.proofs.put_line.Statement.{statement}
 use Rattle.lines.proofs.put_line.Tie as tie
 
--- the start, seen from behind each put
+-- the start, seen from behind each put. The last needs give it no name of their own: `omega` would read it once more, and it enters 128 records at most
 abbrev after-id : tie.After-put-number → tie.Start
 after-id c = c .before .before .before
 

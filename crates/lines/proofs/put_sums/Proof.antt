@@ -13,7 +13,7 @@ use borrow.Author.Needs.{needs}
 use Rattle.lines.proofs.put_sums.Statement.{statement}
 use Rattle.lines.proofs.put_sums.Tie as tie
 
--- the mark, seen from behind each put
+-- the mark, seen from behind each put. The needs give it no name of their own: `omega` would read it once more, and it enters 128 records at most
 abbrev after-word : tie.After-put-word → tie.After-mark-of
 after-word c = c .before .before .before
 
