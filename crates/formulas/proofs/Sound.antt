@@ -113,7 +113,7 @@ rows-good : (xs : List Row) → rowsSound xs ≡ true → (medium class : ℕ) (
 rows-good [] t medium class side = no-pathways-good
 rows-good (x ∷ xs) t medium class side =
     let both = and-split (rowSound x && rowThree x) (rowsSound xs) t in
-    one-of (eqb (x .medium) medium && eqb (x .class) class) (side-good x (both .0) side) (rows-good xs (both .1) medium class side)
+    one-of _ (side-good x (both .0) side) (rows-good xs (both .1) medium class side)
 
 table-good : (medium class : ℕ) (side : Side) → RowGood (pathwaysOf medium class side)
 unfolding pathwaysOf table
