@@ -11,7 +11,7 @@ use borrow.Author.Tests.{eqb-true, ne-eqb, leb-true}
 use Rattle.inputs.specs.Limits.{inputWidth, partRoundings, partWidth, workedRoundings, workedWidth, formulaRoundings, formulaWidth}
 use Rattle.inputs.proofs.Tests.{and-split}
 use Rattle.formulas.specs.Side.{Side, Risk, Hazard}
-use Rattle.formulas.specs.Formula.{Formula, Row, table, formulasOf, rowOf, pathwaysOf, noPathways, derived, derivedPlaces, none}
+use Rattle.formulas.specs.Formula.{Formula, Row, table, formulasOf, isRow, rowOf, pathwaysOf, noPathways, derived, derivedPlaces, none}
 
 -- a factor that is worked out stands in one of the first places, with its own limits; an input is exact
 abbrev pub isDerived : ℕ → Bool
@@ -113,7 +113,7 @@ rows-good : (xs : List Row) → rowsSound xs ≡ true → (medium class : ℕ) (
 rows-good [] t medium class side = no-pathways-good
 rows-good (x ∷ xs) t medium class side =
     let both = and-split (rowSound x && rowThree x) (rowsSound xs) t in
-    one-of _ (side-good x (both .0) side) (rows-good xs (both .1) medium class side)
+    one-of (isRow x medium class) (side-good x (both .0) side) (rows-good xs (both .1) medium class side)
 
 table-good : (medium class : ℕ) (side : Side) → RowGood (pathwaysOf medium class side)
 unfolding pathwaysOf table
@@ -137,7 +137,7 @@ other-class medium class side h =
 -- no medium and class has two rows, of which the second would not count
 abbrev named : List Row → ℕ → ℕ → Bool
 named [] medium class = false
-named (x ∷ xs) medium class = cond (eqb (x .medium) medium && eqb (x .class) class) true (named xs medium class)
+named (x ∷ xs) medium class = cond (isRow x medium class) true (named xs medium class)
 
 abbrev distinct : List Row → Bool
 distinct [] = true

@@ -1,5 +1,5 @@
 -- The formulas (docs/SPECIFICATION.md, "Terms") as a table: a formula is the list of the factors before the stroke and of those after it.
-use mathlib.Core.Bool.{cond, _&&_}
+use mathlib.Core.Bool.{Bool, cond, _&&_}
 use mathlib.Core.List.{List, [], _∷_}
 use Prim.Native.Nat.{ℕ, _+_}
 use lib.Dec.{eqb}
@@ -170,9 +170,12 @@ formulasOf x Risk = x .risk
 formulasOf x Hazard = x .hazard
 
 -- the row of a medium and a class; what has no row has no pathway
+abbrev pub isRow : Row → ℕ → ℕ → Bool
+isRow x medium class = eqb (x .medium) medium && eqb (x .class) class
+
 abbrev pub rowOf : List Row → ℕ → ℕ → Side → List Formula
 rowOf [] medium class side = noPathways
-rowOf (x ∷ xs) medium class side = cond (eqb (x .medium) medium && eqb (x .class) class) (formulasOf x side) (rowOf xs medium class side)
+rowOf (x ∷ xs) medium class side = cond (isRow x medium class) (formulasOf x side) (rowOf xs medium class side)
 
 unfoldable pub pathwaysOf : ℕ → ℕ → Side → List Formula
 pathwaysOf medium class side = rowOf table medium class side
