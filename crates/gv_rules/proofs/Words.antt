@@ -14,7 +14,7 @@ use Rattle.guideline_rules.specs.declared.GuidelineAnswer.{GuidelineAnswer}
 use Rattle.guideline_rules.specs.Pathway.{recordRefusal}
 use Rattle.guideline_rules.specs.Guideline.{guidelineRanged, refused, workedOut, guidelineOf}
 use Rattle.sum_rules.specs.Verdict.{verdictNumber}
-use Rattle.sum_rules.proofs.AnswerBounds.{number-most}
+use Rattle.outcome.proofs.Numbers.{number-most}
 use Rattle.site_rules.specs.Site.{siteAnswer}
 use Rattle.site_rules.proofs.AnswerBounds.{answer-bounded}
 use Rattle.gv_rules.specs.Exports.{wordOf, packed, Unpacked, headerFrom, contaminantFrom, guidelineSent, guidelineWord}

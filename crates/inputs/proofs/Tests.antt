@@ -13,7 +13,7 @@ use Rattle.decimal.specs.Exponent.{raised}
 use Rattle.decimal.specs.Decimal.{zeroOf}
 use Rattle.inputs.specs.declared.Scenario.{Scenario}
 use Rattle.inputs.specs.declared.Contaminant.{Contaminant}
-use Rattle.inputs.specs.Inputs.{scenarioDecimals, formulaDecimals, contaminantDecimals, scenarioPlaces, contaminantPlaces}
+use Rattle.inputs.specs.Inputs.{scenarioDecimals, formulaDecimals, contaminantDecimals, scenarioPlaces, contaminantPlaces, otherDecimals, exposureDecimals, contactDecimals, targetDecimals}
 use Rattle.inputs.specs.Inputs.{exposureOf, contactOf, targetsOf, toxicityOf, transferOf, scenarioOf, contaminantOf}
 use Rattle.inputs.specs.Valid.{validOf, allValid}
 use Rattle.inputs.specs.Rules.{oneOrTwo, OneOrTwo}
@@ -55,7 +55,15 @@ valid-parts x y h = and-split (allValid x) (allValid y) (sym (valid-join x y) �
 
 -- what the formulas name of a contaminant, and C
 pub contaminant-parts : (r : Contaminant) → allValid (contaminantDecimals r) ≡ true → (allValid (formulaDecimals r) ≡ true) × (validOf (r .c) ≡ true)
-contaminant-parts r h = let p = valid-parts (formulaDecimals r) (r .c ∷ []) h in (p .0, and-split (validOf (r .c)) true (p .1) .0)
+contaminant-parts r h = let p = valid-parts (formulaDecimals r) (otherDecimals r) h in (p .0, and-split (validOf (r .c)) _ (p .1) .0)
+
+-- the targets of a scenario
+pub target-parts : (s : Scenario) → allValid (scenarioDecimals s) ≡ true → (validOf (s .targets .tr) ≡ true) × (validOf (s .targets .thi) ≡ true)
+target-parts s h =
+    let targets = targetDecimals (s .targets) in
+    let contact = contactDecimals (s .contact) in
+    let own = valid-parts contact targets (valid-parts (exposureDecimals (s .exposure)) (contact ++ targets) h .1) .1 in
+    (valid-at targets own 0, valid-at targets own 1)
 
 pub valid-append : (x y : List Decimal) → allValid x ≡ true → allValid y ≡ true → allValid (x ++ y) ≡ true
 valid-append [] y h k = k

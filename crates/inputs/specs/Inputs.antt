@@ -28,15 +28,19 @@ toxicityDecimals x = x .sfo ∷ (x .sfi ∷ (x .sfx ∷ (x .rfdo ∷ (x .rfdi �
 abbrev pub transferDecimals : Transfer → List Decimal
 transferDecimals x = x .vf ∷ (x .pc ∷ [])
 
--- ---- a scenario, and a contaminant: what its formulas name, then C
+-- ---- a scenario, and a contaminant: what its formulas name, then the others
 abbrev pub scenarioDecimals : Scenario → List Decimal
 scenarioDecimals s = exposureDecimals (s .exposure) ++ (contactDecimals (s .contact) ++ targetDecimals (s .targets))
 
 abbrev pub formulaDecimals : Contaminant → List Decimal
 formulaDecimals r = toxicityDecimals (r .toxicity) ++ transferDecimals (r .transfer)
 
+-- what no formula names
+abbrev pub otherDecimals : Contaminant → List Decimal
+otherDecimals r = r .c ∷ []
+
 abbrev pub contaminantDecimals : Contaminant → List Decimal
-contaminantDecimals r = formulaDecimals r ++ (r .c ∷ [])
+contaminantDecimals r = formulaDecimals r ++ otherDecimals r
 
 -- how many they are
 abbrev pub scenarioPlaces : ℕ

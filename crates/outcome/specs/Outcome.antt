@@ -24,6 +24,10 @@ numberOf Range = 9
 numberOf Room = 10
 numberOf Scenario = 11
 
+-- the greatest of them
+abbrev pub mostNumber : ℕ
+mostNumber = 11
+
 -- ---- tests in the order in which they are made: the first that holds is sent back
 pub record Test : Type 0 where
   pub refusal : Refusal

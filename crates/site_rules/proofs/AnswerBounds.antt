@@ -1,4 +1,4 @@
--- Every answer of the site call: its number is at most 11 and never 9, its block at most 120, its verdicts at most 4. Assumes nothing.
+-- Every answer of the site call: its number is at most the greatest and never 9, its block at most 120, its verdicts at most 4. Assumes nothing.
 use mathlib.Core.Path.{_≡_, refl, sym, subst}
 use mathlib.Core.Bool.{Bool, true, false, cond}
 use mathlib.Core.List.{List}
@@ -27,7 +27,8 @@ use Rattle.sum_rules.specs.Share.{Running, start, next}
 use Rattle.sum_rules.specs.ListCall.{blockRanged, refused, takenIn}
 use Rattle.sum_rules.proofs.TakenIn.{taken-ranged}
 use Rattle.sum_rules.proofs.NeverOutOfRange.{record-told}
-use Rattle.sum_rules.proofs.AnswerBounds.{number-most, verdict-most}
+use Rattle.outcome.proofs.Numbers.{number-most}
+use Rattle.sum_rules.proofs.AnswerBounds.{verdict-most}
 use Rattle.sum_rules.proofs.InRange.{FairRun, fair-start, fair-next, in-range}
 use Rattle.site_rules.specs.Blocks.{lengthOk, blockAt}
 use Rattle.site_rules.specs.Site.{siteAnswer}

@@ -17,9 +17,8 @@ use Rattle.decimal.proofs.Approximation.Fair.{none, some}
 use Rattle.decimal.proofs.Approximation.Summands.{end, next as one-more}
 use Rattle.inputs.specs.declared.Scenario.{Scenario}
 use Rattle.inputs.specs.declared.Contaminant.{Contaminant}
-use Rattle.inputs.specs.Inputs.{contaminantDecimals}
 use Rattle.inputs.specs.Limits.{inputWidth, totalRoundings, totalWidth, shareRoundings, shareWidth, sumRoundings, sumWidth}
-use Rattle.inputs.proofs.Tests.{valid-small, valid-at}
+use Rattle.inputs.proofs.Tests.{valid-small, contaminant-parts}
 use Rattle.formulas.specs.Side.{Side}
 use Rattle.formulas.specs.Term.{formulasFor}
 use Rattle.formulas.specs.ExactTerm.{exactTotal, exactFor}
@@ -44,7 +43,7 @@ module _ (s : Scenario) (medium : ℕ) (side : Side) (dir : Direction) where
 
   concentration : (r : Contaminant) → Accepted s medium r → Fair dir 0 inputWidth (usedOf r dir) (exactUsed r)
   unfolding usedOf exactUsed
-  concentration r a = let k = valid-small (r .c) (valid-at (contaminantDecimals r) (a .contaminant) 7) in working-fair dir (r .c) (k .digits) (k .low) (k .high)
+  concentration r a = let k = valid-small (r .c) (contaminant-parts r (a .contaminant) .1) in working-fair dir (r .c) (k .digits) (k .low) (k .high)
 
   pub share-bounds : (r : Contaminant) → Accepted s medium r → Fair dir shareRoundings shareWidth (shareOf s medium r dir side) (exactShare s medium side r)
   unfolding shareOf exactShare

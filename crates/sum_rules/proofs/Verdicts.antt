@@ -29,7 +29,7 @@ use Rattle.inputs.specs.declared.Contaminant.{Contaminant}
 use Rattle.inputs.specs.Inputs.{scenarioDecimals}
 use Rattle.inputs.specs.Valid.{allValid}
 use Rattle.inputs.specs.Limits.{sumRoundings, sumWidth}
-use Rattle.inputs.proofs.Tests.{Small, and-split, valid-small, valid-at}
+use Rattle.inputs.proofs.Tests.{Small, and-split, valid-small, target-parts}
 use Rattle.formulas.specs.Side.{Side, Risk, Hazard}
 use Rattle.formulas.proofs.TermBounds.{fair-bottom}
 use Rattle.guideline_rules.specs.Promise.{targetOf}
@@ -142,8 +142,8 @@ module _ (target : Decimal) {lower upper : Decimal} {q t : Fraction} (l : Close 
 
 -- ---- the targets
 target-small : (s : Scenario) → allValid (scenarioDecimals s) ≡ true → (side : Side) → Small (targetOf s side)
-target-small s v Risk = valid-small (s .targets .tr) (valid-at (scenarioDecimals s) v 10)
-target-small s v Hazard = valid-small (s .targets .thi) (valid-at (scenarioDecimals s) v 11)
+target-small s v Risk = valid-small (s .targets .tr) (target-parts s v .0)
+target-small s v Hazard = valid-small (s .targets .thi) (target-parts s v .1)
 
 given-same : (a b : Decimal) → valueOf a ≡ valueOf b → given a ≡ given b
 unfolding given
