@@ -6,7 +6,7 @@ use native.Mathlib.Omega.{arith}
 use lib.ListN.{length, drop}
 use Rattle.words.specs.Bytes.{le4, placed, over}
 use Rattle.words.proofs.Words.{le4-length, wordSum-front}
-use Rattle.words.proofs.Written.{Wrote, wrote-next, placed-placed}
+use Rattle.words.proofs.Written.{Wrote, wrote-next}
 use Rattle.decimal.specs.declared.Decimal.{Decimal}
 use Rattle.fields.specs.Fields.{fieldBytes}
 use Rattle.fields.proofs.ReadBack.{fieldBytes-length, fieldBytes-append}
@@ -22,14 +22,6 @@ unfolding lastWord over
 lastWord-over p d h = ap (λ (n : ℕ). (4294967296 - n % 4294967296) % 4294967296) (wordSum-front p (drop (length p) d) 127 (omega arith))
 
 -- ---- the steps
--- fields written behind fields just written
-pub placed-fields : (d l l′ : List ℕ) (at to : ℕ) (x y : List Decimal) → l ≡ placed d at (fieldBytes x) → at + 8 * length x ≡ to → at ≤ length d
-    → l′ ≡ placed l to (fieldBytes y) → l′ ≡ placed d at (fieldBytes (x ++ y))
-placed-fields d l l′ at to x y e n h g =
-    g ∙ ap (λ (t : List ℕ). placed t to (fieldBytes y)) e
-    ∙ placed-placed d (fieldBytes x) (fieldBytes y) at to (omega (arith, fieldBytes-length x)) h
-    ∙ ap (placed d at) (sym (fieldBytes-append x y))
-
 pub wrote-fields : {l d : List ℕ} {at : ℕ} (p : List ℕ) (x y : List Decimal) (k : ℕ) (l′ : List ℕ)
     → Wrote l (p ++ fieldBytes x) d at → l′ ≡ placed l at (fieldBytes y) → 8 * length y ≡ k
     → Wrote l′ (p ++ fieldBytes (x ++ y)) d (at + k)

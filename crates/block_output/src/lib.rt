@@ -1,18 +1,11 @@
 // Puts one block into the first 512 bytes of what is lent: header, contaminant, result, summary.
 use block_rules::Header;
 use guideline_rules::SideGuidelines;
-use inputs::Contact;
 use inputs::Contaminant;
-use inputs::Exposure;
-use inputs::Targets;
-use inputs::Toxicity;
-use inputs::Transfer;
 use sum_rules::SideSums;
 ghost use mathlib.Core.Path.{_≡_};
-ghost use Prim.Native.Nat.{_+_, _≤_};
+ghost use Prim.Native.Nat.{_≤_};
 ghost use lib.ListN.{length};
-ghost use Rattle.inputs.specs.Inputs.{exposureDecimals, contactDecimals, targetDecimals, toxicityDecimals, transferDecimals};
-ghost use Rattle.fields.specs.Fields.{fieldBytes};
 ghost use Rattle.block_rules.specs.Rules.{blockSize};
 ghost use Rattle.words.specs.Bytes.{placed, le4, over};
 ghost use Rattle.block_rules.specs.Layouts.{lastWord, firstWords, headerBlock, contaminantBlock, resultBlock, summaryBlock};
@@ -37,45 +30,6 @@ fn put_first_words(out: &mut [u8], kind: u32, place: u32, a: u32, b: u32)
     words::put(out, 12, b);
 }
 
-// Writes the decimals of each group of a scenario, the first at `at`.
-fn put_exposure(out: &mut [u8], at: usize, x: Exposure)
-    requires { ⌜ at + 32 ≤ length (now out) ⌝ }
-    ensures { λ _. ⌜ now (out .exit) ≡ placed (now (out .entry)) at (fieldBytes (exposureDecimals x)) ⌝ }
-{
-    fields::put_four(out, at, x.ef, x.ed, x.bw, x.at);
-}
-
-fn put_contact(out: &mut [u8], at: usize, x: Contact)
-    requires { ⌜ at + 48 ≤ length (now out) ⌝ }
-    ensures { λ _. ⌜ now (out .exit) ≡ placed (now (out .entry)) at (fieldBytes (contactDecimals x)) ⌝ }
-{
-    fields::put_four(out, at, x.ir, x.ira, x.pef, x.et);
-    fields::put_two(out, at + 32, x.rf, x.sa);
-}
-
-fn put_targets(out: &mut [u8], at: usize, x: Targets)
-    requires { ⌜ at + 16 ≤ length (now out) ⌝ }
-    ensures { λ _. ⌜ now (out .exit) ≡ placed (now (out .entry)) at (fieldBytes (targetDecimals x)) ⌝ }
-{
-    fields::put_two(out, at, x.tr, x.thi);
-}
-
-// Writes the decimals of each group of a contaminant, the first at `at`.
-fn put_toxicity(out: &mut [u8], at: usize, x: Toxicity)
-    requires { ⌜ at + 40 ≤ length (now out) ⌝ }
-    ensures { λ _. ⌜ now (out .exit) ≡ placed (now (out .entry)) at (fieldBytes (toxicityDecimals x)) ⌝ }
-{
-    fields::put_four(out, at, x.sfo, x.sfi, x.sfx, x.rfdo);
-    fields::put(out, at + 32, x.rfdi);
-}
-
-fn put_transfer(out: &mut [u8], at: usize, x: Transfer)
-    requires { ⌜ at + 16 ≤ length (now out) ⌝ }
-    ensures { λ _. ⌜ now (out .exit) ≡ placed (now (out .entry)) at (fieldBytes (transferDecimals x)) ⌝ }
-{
-    fields::put_two(out, at, x.vf, x.pc);
-}
-
 // Writes a block of kind 1.
 pub fn put_header(out: &mut [u8], h: Header)
     requires { ⌜ blockSize ≤ length (now out) ⌝ }
@@ -83,9 +37,9 @@ pub fn put_header(out: &mut [u8], h: Header)
 {
     let s = h.scenario;
     put_first_words(out, 1, 0, h.medium, h.count);
-    put_exposure(out, 16, s.exposure);
-    put_contact(out, 48, s.contact);
-    put_targets(out, 96, s.targets);
+    groups::put_exposure(out, 16, s.exposure);
+    groups::put_contact(out, 48, s.contact);
+    groups::put_targets(out, 96, s.targets);
     words::clear(out, 112, 396);
     put_last_word(out);
 }
@@ -96,8 +50,8 @@ pub fn put_contaminant(out: &mut [u8], place: u32, r: Contaminant)
     ensures { λ _. ⌜ now (out .exit) ≡ over (contaminantBlock place r) (now (out .entry)) ⌝ }
 {
     put_first_words(out, 2, place, r.class, r.id);
-    put_toxicity(out, 16, r.toxicity);
-    put_transfer(out, 56, r.transfer);
+    groups::put_toxicity(out, 16, r.toxicity);
+    groups::put_transfer(out, 56, r.transfer);
     fields::put(out, 72, r.c);
     words::clear(out, 80, 428);
     put_last_word(out);

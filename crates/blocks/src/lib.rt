@@ -3,22 +3,15 @@ use block_rules::BLOCK_SIZE;
 use block_rules::ContaminantRead;
 use block_rules::Header;
 use block_rules::HeaderRead;
-use inputs::Contact;
 use inputs::Contaminant;
-use inputs::Exposure;
 use inputs::MOST_CONTAMINANTS;
 use inputs::Scenario;
-use inputs::Targets;
-use inputs::Toxicity;
-use inputs::Transfer;
 use outcome::Refusal;
 ghost use mathlib.Core.Path.{_≡_};
 ghost use Prim.Native.Nat.{_+_, _≤_};
 ghost use lib.Dec.{eqb};
 ghost use lib.ListN.{length};
 ghost use Rattle.words.specs.Words.{partOf};
-ghost use Rattle.inputs.specs.Inputs.{exposureOf, contactOf, targetsOf, toxicityOf, transferOf};
-ghost use Rattle.fields.specs.Fields.{decimalsAt};
 ghost use Rattle.block_rules.specs.Rules.{inFile, countOk, blockSize, structSize};
 ghost use Rattle.block_rules.specs.Reading.{scenarioAt, headerAt, contaminantAt, headerUnused, contaminantUnused, soundAt, headerRead, contaminantRead};
 
@@ -60,52 +53,15 @@ fn sound(block: &[u8], place: u32) -> bool
     inputs::both(sum == 0, found == place)
 }
 
-// The decimals of each group of a scenario, the first at `at`.
-fn get_exposure(part: &[u8], at: usize) -> Exposure
-    requires { ⌜ at + 32 ≤ length (now part) ⌝ }
-    ensures { λ x. ⌜ x ≡ exposureOf (decimalsAt (now (part .entry)) at 4) ⌝ }
-{
-    Exposure {
-        ef: fields::read(part, at),
-        ed: fields::read(part, at + 8),
-        bw: fields::read(part, at + 16),
-        at: fields::read(part, at + 24),
-    }
-}
-
-fn get_contact(part: &[u8], at: usize) -> Contact
-    requires { ⌜ at + 48 ≤ length (now part) ⌝ }
-    ensures { λ x. ⌜ x ≡ contactOf (decimalsAt (now (part .entry)) at 6) ⌝ }
-{
-    Contact {
-        ir: fields::read(part, at),
-        ira: fields::read(part, at + 8),
-        pef: fields::read(part, at + 16),
-        et: fields::read(part, at + 24),
-        rf: fields::read(part, at + 32),
-        sa: fields::read(part, at + 40),
-    }
-}
-
-fn get_targets(part: &[u8], at: usize) -> Targets
-    requires { ⌜ at + 16 ≤ length (now part) ⌝ }
-    ensures { λ x. ⌜ x ≡ targetsOf (decimalsAt (now (part .entry)) at 2) ⌝ }
-{
-    Targets {
-        tr: fields::read(part, at),
-        thi: fields::read(part, at + 8),
-    }
-}
-
 // The scenario whose first decimal stands at `at`.
 fn get_scenario(part: &[u8], at: usize) -> Scenario
     requires { ⌜ at + 96 ≤ length (now part) ⌝ }
     ensures { λ s. ⌜ s ≡ scenarioAt (now (part .entry)) at ⌝ }
 {
     Scenario {
-        exposure: get_exposure(part, at),
-        contact: get_contact(part, at + 32),
-        targets: get_targets(part, at + 80),
+        exposure: groups::get_exposure(part, at),
+        contact: groups::get_contact(part, at + 32),
+        targets: groups::get_targets(part, at + 80),
     }
 }
 
@@ -132,30 +88,6 @@ pub fn header_unused(part: &[u8], at: usize) -> bool
     )
 }
 
-// The decimals of each group of a contaminant, the first at `at`.
-fn get_toxicity(part: &[u8], at: usize) -> Toxicity
-    requires { ⌜ at + 40 ≤ length (now part) ⌝ }
-    ensures { λ x. ⌜ x ≡ toxicityOf (decimalsAt (now (part .entry)) at 5) ⌝ }
-{
-    Toxicity {
-        sfo: fields::read(part, at),
-        sfi: fields::read(part, at + 8),
-        sfx: fields::read(part, at + 16),
-        rfdo: fields::read(part, at + 24),
-        rfdi: fields::read(part, at + 32),
-    }
-}
-
-fn get_transfer(part: &[u8], at: usize) -> Transfer
-    requires { ⌜ at + 16 ≤ length (now part) ⌝ }
-    ensures { λ x. ⌜ x ≡ transferOf (decimalsAt (now (part .entry)) at 2) ⌝ }
-{
-    Transfer {
-        vf: fields::read(part, at),
-        pc: fields::read(part, at + 8),
-    }
-}
-
 // The contaminant whose class stands at `at`: in the 504 bytes between kind and last word at 4, in a struct of C at 0.
 pub fn get_contaminant(part: &[u8], at: usize) -> Contaminant
     requires { ⌜ at + 72 ≤ length (now part) ⌝ }
@@ -164,8 +96,8 @@ pub fn get_contaminant(part: &[u8], at: usize) -> Contaminant
     Contaminant {
         class: words::word(part, at),
         id: words::word(part, at + 4),
-        toxicity: get_toxicity(part, at + 8),
-        transfer: get_transfer(part, at + 48),
+        toxicity: groups::get_toxicity(part, at + 8),
+        transfer: groups::get_transfer(part, at + 48),
         c: fields::read(part, at + 64),
     }
 }

@@ -1,10 +1,10 @@
--- `blocks::get_toxicity` meets its contract. Assumes nothing.
+-- `groups::get_contact` meets its contract. Assumes nothing.
 use native.Mathlib.Nat.{add-assoc}
-use Rattle.inputs.specs.Inputs.{toxicityOf}
+use Rattle.inputs.specs.Inputs.{contactOf}
 use Rattle.fields.specs.Fields.{decimalsAt}
 use borrow.Author.Needs.{needs}
-use Rattle.blocks.proofs.get_toxicity.Statement.{statement}
-use Rattle.blocks.proofs.get_toxicity.Tie as tie
+use Rattle.groups.proofs.get_contact.Statement.{statement}
+use Rattle.groups.proofs.get_contact.Tie as tie
 
 read-requires : tie.Need-read-requires
 read-requires c κs = search needs
@@ -33,17 +33,24 @@ add-read-4 c = search needs
 read-requires-5 : tie.Need-read-requires-5
 read-requires-5 c κs = search needs
 
+add-read-5 : tie.Need-add-read-5
+add-read-5 c = search needs
+
+read-requires-6 : tie.Need-read-requires-6
+read-requires-6 c κs = search needs
+
 returns : tie.Need-returns
-unfolding toxicityOf decimalsAt
+unfolding contactOf decimalsAt
 returns c =
-    let fourth = c .before in
+    let fifth = c .before in
+    let fourth = fifth .before in
     let third = fourth .before in
     let second = third .before in
     let first = second .before in
-    simp (add-assoc, first .read .ensures, second .read2 .ensures, third .read3 .ensures, fourth .read4 .ensures, c .read5 .ensures)
+    simp (add-assoc, first .read .ensures, second .read2 .ensures, third .read3 .ensures, fourth .read4 .ensures, fifth .read5 .ensures, c .read6 .ensures)
 
-pub get-toxicity-spec : {M : Type 1} → statement M
-get-toxicity-spec =
+pub get-contact-spec : {M : Type 1} → statement M
+get-contact-spec =
     tie.close
     (tie.spec
     read-requires
@@ -55,4 +62,6 @@ get-toxicity-spec =
     read-requires-4
     add-read-4
     read-requires-5
+    add-read-5
+    read-requires-6
     returns)

@@ -1,4 +1,4 @@
--- `block_output::put_toxicity` meets its contract. Assumes nothing.
+-- `groups::put_toxicity` meets its contract. Assumes nothing.
 use mathlib.Core.Path.{refl, ap, _∙_}
 use mathlib.Core.List.{List, [], _∷_}
 use Prim.Native.Nat.{_+_}
@@ -6,10 +6,10 @@ use native.Mathlib.Omega.{arith}
 use Rattle.words.specs.Bytes.{placed}
 use Rattle.decimal.specs.declared.Decimal.{Decimal}
 use Rattle.fields.proofs.ReadBack.{one-field}
-use Rattle.block_output.proofs.Blocks.{placed-fields}
+use Rattle.groups.proofs.Groups.{placed-fields}
 use borrow.Author.Needs.{needs}
-use Rattle.block_output.proofs.put_toxicity.Statement.{statement}
-use Rattle.block_output.proofs.put_toxicity.Tie as tie
+use Rattle.groups.proofs.put_toxicity.Statement.{statement}
+use Rattle.groups.proofs.put_toxicity.Tie as tie
 
 put-four-requires : tie.Need-put-four-requires
 put-four-requires c κs = search needs

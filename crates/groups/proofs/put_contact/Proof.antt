@@ -1,13 +1,13 @@
--- `block_output::put_contact` meets its contract. Assumes nothing.
+-- `groups::put_contact` meets its contract. Assumes nothing.
 use mathlib.Core.Path.{refl}
 use mathlib.Core.List.{List, [], _∷_}
 use Prim.Native.Nat.{_+_}
 use native.Mathlib.Omega.{arith}
 use Rattle.decimal.specs.declared.Decimal.{Decimal}
-use Rattle.block_output.proofs.Blocks.{placed-fields}
+use Rattle.groups.proofs.Groups.{placed-fields}
 use borrow.Author.Needs.{needs}
-use Rattle.block_output.proofs.put_contact.Statement.{statement}
-use Rattle.block_output.proofs.put_contact.Tie as tie
+use Rattle.groups.proofs.put_contact.Statement.{statement}
+use Rattle.groups.proofs.put_contact.Tie as tie
 
 put-four-requires : tie.Need-put-four-requires
 put-four-requires c κs = search needs

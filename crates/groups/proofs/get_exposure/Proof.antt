@@ -1,10 +1,10 @@
--- `blocks::get_exposure` meets its contract. Assumes nothing.
+-- `groups::get_exposure` meets its contract. Assumes nothing.
 use native.Mathlib.Nat.{add-assoc}
 use Rattle.inputs.specs.Inputs.{exposureOf}
 use Rattle.fields.specs.Fields.{decimalsAt}
 use borrow.Author.Needs.{needs}
-use Rattle.blocks.proofs.get_exposure.Statement.{statement}
-use Rattle.blocks.proofs.get_exposure.Tie as tie
+use Rattle.groups.proofs.get_exposure.Statement.{statement}
+use Rattle.groups.proofs.get_exposure.Tie as tie
 
 read-requires : tie.Need-read-requires
 read-requires c κs = search needs
