@@ -56,6 +56,7 @@ abbrev pub unlessRefused : Refusal → ℕ → GuidelineAnswer → GuidelineAnsw
 unlessRefused n block a = cond (eqb (numberOf n) 0) a (refused n block)
 
 -- ---- one record in a scenario and a medium
+-- the target of each side, by its name in the table of formulas
 abbrev pub targetName : Side → ℕ
 targetName Risk = TR
 targetName Hazard = THI
@@ -63,9 +64,11 @@ targetName Hazard = THI
 abbrev pub targetValue : Scenario → Contaminant → Side → Decimal
 targetValue s r side = look (valuesFor Up s r) (targetName side)
 
+-- a side's guidelines: its target over each term of its formulas, and over their sum
 abbrev pub guidelinesOf : Scenario → ℕ → Contaminant → Side → SideGuidelines
 guidelinesOf s medium r side = sideOf (valuesFor Up s r) (targetValue s r side) (formulasFor s medium r side)
 
+-- a side without a 9: its terms, their sum and its guidelines
 abbrev pub guidelineRanged : Scenario → ℕ → Contaminant → Side → Bool
 guidelineRanged s medium r side = allRanged (sideDecimals (valuesFor Up s r) (targetValue s r side) (formulasFor s medium r side))
 
