@@ -1,7 +1,6 @@
 -- What the code of the operations needs: sizes that keep every sum and product inside 64 bits, and the shorter forms it computes. Assumes nothing.
 use mathlib.Core.Path.{_≡_, refl, sym, ap, _∙_}
-use mathlib.Core.Bool.{Bool, true, false, cond, _&&_}
-use mathlib.Core.Logic.{_⊎_, inl, inr}
+use mathlib.Core.Bool.{Bool, true, false, cond}
 use Prim.Native.Nat.{ℕ, zero, suc, _+_, _-_, _*_, _/_, _%_, _^_, _≤_, _<_}
 use native.Mathlib.Nat.{mul-le-mul, pow-le-pow-right, lt-of-lt-of-le, le-of-suc-le-suc, not-suc-le-zero, eq-or-lt-of-le}
 use native.Mathlib.Omega.{arith}
@@ -19,45 +18,6 @@ use Rattle.rounding.proofs.Greatest.{pow-ten-pos}
 pub extra-most : (dir : Direction) (d : ℕ) → extraOf dir d ≤ d
 extra-most Down d = omega arith
 extra-most Up d = omega arith
-
--- ---- a power of ten from the binary digits of its exponent, up to 9: one test that antt computes
-abbrev pub powerOf : ℕ → ℕ
-powerOf k = cond (eqb (k % 2) 1) 10 1 * cond (eqb (k / 2 % 2) 1) 100 1 * (cond (eqb (k / 4 % 2) 1) 10000 1 * cond (eqb (k / 8) 1) 100000000 1)
-
--- the test passes at each number below n
-abbrev allBelow : ℕ → (ℕ → Bool) → Bool
-allBelow zero f = true
-allBelow (suc n) f = f n && allBelow n f
-
-below-cases : (n : ℕ) (f : ℕ → Bool) (k : ℕ) → (allBelow n f ≡ true → k < n → f k ≡ true) → (b : Bool) → f n ≡ b → b && allBelow n f ≡ true → (k ≡ n) ⊎ (k < n) → f k ≡ true
-below-cases n f k again true e h (inl s) = rw s e
-below-cases n f k again true e h (inr s) = again h s
-below-cases n f k again false e h s = absurd (let z : _≡_ {A = ℕ} 0 1 = cc in omega arith)
-
-at-below : (n : ℕ) (f : ℕ → Bool) → allBelow n f ≡ true → (k : ℕ) → k < n → f k ≡ true
-at-below zero f h k l = absurd (not-suc-le-zero l)
-at-below (suc n) f h k l = below-cases n f k (λ g s. at-below n f g k s) (f n) refl h (eq-or-lt-of-le (le-of-suc-le-suc l))
-
-pub power-is : (k : ℕ) → k ≤ 9 → powerOf k ≡ 10 ^ k
-power-is k h = eqb-true (powerOf k) (10 ^ k) (at-below 10 (λ k. eqb (powerOf k) (10 ^ k)) refl k (omega arith))
-
--- each of its four factors is one of two, and their products fit
-factor-most : (t : Bool) (a : ℕ) → 1 ≤ a → cond t a 1 ≤ a
-factor-most true a h = omega arith
-factor-most false a h = h
-
-pub record Products (a b c d : ℕ) : Type 0 where
-  pub low : a * b ≤ 1000
-  pub high : c * d ≤ 1000000000000
-  pub all : a * b * (c * d) ≤ 1000000000000000
-
-pub power-products : (k : ℕ) {a b c d : ℕ} → a ≡ cond (eqb (k % 2) 1) 10 1 → b ≡ cond (eqb (k / 2 % 2) 1) 100 1 → c ≡ cond (eqb (k / 4 % 2) 1) 10000 1 → d ≡ cond (eqb (k / 8) 1) 100000000 1 → Products a b c d
-power-products k {a} {b} {c} {d} e f g h =
-    let p : a ≤ 10 = rw e (factor-most (eqb (k % 2) 1) 10 (lit≤ tt)) in
-    let q : b ≤ 100 = rw f (factor-most (eqb (k / 2 % 2) 1) 100 (lit≤ tt)) in
-    let r : c ≤ 10000 = rw g (factor-most (eqb (k / 4 % 2) 1) 10000 (lit≤ tt)) in
-    let s : d ≤ 100000000 = rw h (factor-most (eqb (k / 8) 1) 100000000 (lit≤ tt)) in
-    record { low = mul-le-mul p q; high = mul-le-mul r s; all = mul-le-mul (mul-le-mul p q) (mul-le-mul r s) }
 
 -- ---- the shorter quotient is picked field by field
 pub cut-is : (dir : Direction) (q x : ℕ) → record { m = cond (ltb q 1000000000) q (divideOf dir q 10); x = cond (ltb q 1000000000) x (x + 1) } ≡ cutOf dir q x

@@ -5,4 +5,5 @@ pub mod Near
 pub mod ExactResults
 pub mod Exponents
 pub mod NineDigits
+pub mod PowersOfTen
 pub mod CodeFacts

@@ -46,15 +46,19 @@ fn pick(test: bool, a: u64, b: u64) -> u64
     b
 }
 
-// 10^k: the only place where powers of ten are made. Each binary digit of k chooses a factor.
+// 10^k: the only place where a power of ten is made for an exponent that is not known beforehand. Each factor is the square
+// of the one before, so that no array of powers is kept; each binary digit of k chooses a factor, so that no loop is needed.
 fn power(k: u64) -> u64
     requires { ⌜ k ≤ 9 ⌝ }
     ensures { λ r. ⌜ r ≡ 10 ^ k ⌝ }
 {
+    let second = 10 * 10;
+    let fourth = second * second;
+    let eighth = fourth * fourth;
     let a = pick(k % 2 == 1, 10, 1);
-    let b = pick(k / 2 % 2 == 1, 100, 1);
-    let c = pick(k / 4 % 2 == 1, 10_000, 1);
-    let d = pick(k / 8 == 1, 100_000_000, 1);
+    let b = pick(k / 2 % 2 == 1, second, 1);
+    let c = pick(k / 4 % 2 == 1, fourth, 1);
+    let d = pick(k / 8 == 1, eighth, 1);
     a * b * (c * d)
 }
 

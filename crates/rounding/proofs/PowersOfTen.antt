@@ -1,0 +1,72 @@
+-- A power of ten from the binary digits of its exponent, 0 to 9, as `rounding::power` makes it. Assumes nothing.
+use mathlib.Core.Path.{_≡_, refl}
+use mathlib.Core.Bool.{Bool, true, false, cond, _&&_}
+use mathlib.Core.Logic.{_⊎_, inl, inr}
+use Prim.Native.Nat.{ℕ, zero, suc, _*_, _/_, _%_, _^_, _≤_, _<_}
+use native.Mathlib.Nat.{mul-le-mul, le-of-suc-le-suc, not-suc-le-zero, eq-or-lt-of-le}
+use native.Mathlib.Omega.{arith}
+use lib.Dec.{eqb, lit≤}
+use borrow.Author.Tests.{eqb-true}
+
+-- ---- the factors: 10 and, each the square of the one before, 10^2, 10^4 and 10^8
+abbrev pub second : ℕ
+second = 10 * 10
+
+abbrev pub fourth : ℕ
+fourth = second * second
+
+abbrev pub eighth : ℕ
+eighth = fourth * fourth
+
+-- ---- a binary digit of the exponent chooses each
+abbrev pub firstChosen : ℕ → ℕ
+firstChosen k = cond (eqb (k % 2) 1) 10 1
+
+abbrev pub secondChosen : ℕ → ℕ
+secondChosen k = cond (eqb (k / 2 % 2) 1) second 1
+
+abbrev pub fourthChosen : ℕ → ℕ
+fourthChosen k = cond (eqb (k / 4 % 2) 1) fourth 1
+
+abbrev pub eighthChosen : ℕ → ℕ
+eighthChosen k = cond (eqb (k / 8) 1) eighth 1
+
+abbrev powerOf : ℕ → ℕ
+powerOf k = firstChosen k * secondChosen k * (fourthChosen k * eighthChosen k)
+
+-- ---- their product is the power: one test that antt computes for the ten exponents
+-- the test passes at each number below n
+abbrev allBelow : ℕ → (ℕ → Bool) → Bool
+allBelow zero f = true
+allBelow (suc n) f = f n && allBelow n f
+
+below-cases : (n : ℕ) (f : ℕ → Bool) (k : ℕ) → (allBelow n f ≡ true → k < n → f k ≡ true) → (b : Bool) → f n ≡ b → b && allBelow n f ≡ true → (k ≡ n) ⊎ (k < n) → f k ≡ true
+below-cases n f k again true e h (inl s) = rw s e
+below-cases n f k again true e h (inr s) = again h s
+below-cases n f k again false e h s = absurd (let z : _≡_ {A = ℕ} 0 1 = cc in omega arith)
+
+at-below : (n : ℕ) (f : ℕ → Bool) → allBelow n f ≡ true → (k : ℕ) → k < n → f k ≡ true
+at-below zero f h k l = absurd (not-suc-le-zero l)
+at-below (suc n) f h k l = below-cases n f k (λ g s. at-below n f g k s) (f n) refl h (eq-or-lt-of-le (le-of-suc-le-suc l))
+
+power-is : (k : ℕ) → k ≤ 9 → powerOf k ≡ 10 ^ k
+power-is k h = eqb-true (powerOf k) (10 ^ k) (at-below 10 (λ k. eqb (powerOf k) (10 ^ k)) refl k (omega arith))
+
+-- ---- what is known of the four chosen factors: their products fit, and the last is the power
+pub record Chosen (k a b c d : ℕ) : Type 0 where
+  pub low : a * b ≤ 1000
+  pub high : c * d ≤ 1000000000000
+  pub all : a * b * (c * d) ≤ 1000000000000000
+  pub power : a * b * (c * d) ≡ 10 ^ k
+
+factor-most : (t : Bool) (a : ℕ) → 1 ≤ a → cond t a 1 ≤ a
+factor-most true a h = omega arith
+factor-most false a h = h
+
+pub chosen : (k : ℕ) → k ≤ 9 → {a b c d : ℕ} → a ≡ firstChosen k → b ≡ secondChosen k → c ≡ fourthChosen k → d ≡ eighthChosen k → Chosen k a b c d
+chosen k most {a} {b} {c} {d} e f g h =
+    let p : a ≤ 10 = rw e (factor-most (eqb (k % 2) 1) 10 (lit≤ tt)) in
+    let q : b ≤ second = rw f (factor-most (eqb (k / 2 % 2) 1) second (lit≤ tt)) in
+    let r : c ≤ fourth = rw g (factor-most (eqb (k / 4 % 2) 1) fourth (lit≤ tt)) in
+    let s : d ≤ eighth = rw h (factor-most (eqb (k / 8) 1) eighth (lit≤ tt)) in
+    record { low = mul-le-mul p q; high = mul-le-mul r s; all = mul-le-mul (mul-le-mul p q) (mul-le-mul r s); power = rw (e, f, g, h) (power-is k most) }
