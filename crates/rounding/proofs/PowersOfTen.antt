@@ -7,6 +7,7 @@ use native.Mathlib.Nat.{mul-le-mul, le-of-suc-le-suc, not-suc-le-zero, eq-or-lt-
 use native.Mathlib.Omega.{arith}
 use lib.Dec.{eqb, lit≤}
 use borrow.Author.Tests.{eqb-true}
+use Rattle.rounding.specs.Sizes.{nineDigits, tenDigits}
 
 -- ---- the factors: 10 and, each the square of the one before, 10^2, 10^4 and 10^8
 abbrev pub second : ℕ
@@ -51,6 +52,13 @@ at-below (suc n) f h k l = below-cases n f k (λ g s. at-below n f g k s) (f n) 
 
 power-is : (k : ℕ) → k ≤ 9 → powerOf k ≡ 10 ^ k
 power-is k h = eqb-true (powerOf k) (10 ^ k) (at-below 10 (λ k. eqb (powerOf k) (10 ^ k)) refl k (omega arith))
+
+-- ---- the two powers that products and quotients are scaled by
+pub nine-digits : nineDigits ≡ 10 ^ 8
+nine-digits = refl
+
+pub ten-digits : tenDigits ≡ 10 ^ 9
+ten-digits = refl
 
 -- ---- what is known of the four chosen factors: their products fit, and the last is the power
 pub record Chosen (k a b c d : ℕ) : Type 0 where

@@ -11,10 +11,11 @@ ghost use Rattle.rounding.specs.Operations.{productOf, quotientOf, align
 ghost use Rattle.rounding.specs.WorkingForm.{raiseBy, nineOf, NineResult};
 ghost use mathlib.Core.Bool.{cond};
 
-// The least number of nine digits, and the least of ten.
-pub const NINE_DIGITS: u64 = 100_000_000;
+// The least number of nine digits, 10^8, and the least of ten, 10^9: also what a product is divided by and a dividend is
+// multiplied by.
+pub const NINE_DIGITS: u64 = 10 * 10 * 10 * 10 * 10 * 10 * 10 * 10;
 
-pub const TEN_DIGITS: u64 = 1_000_000_000;
+pub const TEN_DIGITS: u64 = 10 * NINE_DIGITS;
 
 // The exponent e is kept as e + 3000.
 pub const BIAS: u64 = 3000;
@@ -151,7 +152,7 @@ impl Number {
     {
         let n = self.m * other.m;
         let x = self.x + other.x - NINE_PLACES;
-        cut(divide(n, 100_000_000, dir), x, dir)
+        cut(divide(n, NINE_DIGITS, dir), x, dir)
     }
 
     // The quotient, rounded; zero where the divisor is zero.
@@ -160,7 +161,7 @@ impl Number {
         ensures { λ r. ⌜ (r ≡ quotientOf dir self other) × Result (self .x + (bias - 9) - other .x) r ⌝ }
     {
         let some = NINE_DIGITS <= other.m;
-        let n = pick(some, self.m * 1_000_000_000, 0);
+        let n = pick(some, self.m * TEN_DIGITS, 0);
         let d = pick(some, other.m, 1);
         let x = self.x + TEN_PLACES - other.x;
         cut(divide(n, d, dir), x, dir)
