@@ -1,6 +1,6 @@
 -- A power of ten from the binary digits of its exponent, 0 to 9, as `rounding::power` makes it. Assumes nothing.
 use mathlib.Core.Path.{_≡_, refl}
-use mathlib.Core.Bool.{Bool, true, false, cond, _&&_}
+use mathlib.Core.Bool.{Bool, true, false, cond, _&&_, and-eq-true-iff}
 use mathlib.Core.Logic.{_⊎_, inl, inr}
 use Prim.Native.Nat.{ℕ, zero, suc, _*_, _/_, _%_, _^_, _≤_, _<_}
 use native.Mathlib.Nat.{mul-le-mul, le-of-suc-le-suc, not-suc-le-zero, eq-or-lt-of-le}
@@ -41,14 +41,15 @@ abbrev allBelow : ℕ → (ℕ → Bool) → Bool
 allBelow zero f = true
 allBelow (suc n) f = f n && allBelow n f
 
-below-cases : (n : ℕ) (f : ℕ → Bool) (k : ℕ) → (allBelow n f ≡ true → k < n → f k ≡ true) → (b : Bool) → f n ≡ b → b && allBelow n f ≡ true → (k ≡ n) ⊎ (k < n) → f k ≡ true
-below-cases n f k again true e h (inl s) = rw s e
-below-cases n f k again true e h (inr s) = again h s
-below-cases n f k again false e h s = absurd (let z : _≡_ {A = ℕ} 0 1 = cc in omega arith)
+last-or-below : (n : ℕ) (f : ℕ → Bool) (k : ℕ) → f n ≡ true → (k < n → f k ≡ true) → (k ≡ n) ⊎ (k < n) → f k ≡ true
+last-or-below n f k last below (inl s) = rw s last
+last-or-below n f k last below (inr s) = below s
 
 at-below : (n : ℕ) (f : ℕ → Bool) → allBelow n f ≡ true → (k : ℕ) → k < n → f k ≡ true
 at-below zero f h k l = absurd (not-suc-le-zero l)
-at-below (suc n) f h k l = below-cases n f k (λ g s. at-below n f g k s) (f n) refl h (eq-or-lt-of-le (le-of-suc-le-suc l))
+at-below (suc n) f h k l =
+    let both = and-eq-true-iff (f n) (allBelow n f) .0 h in
+    last-or-below n f k (both .0) (λ s. at-below n f (both .1) k s) (eq-or-lt-of-le (le-of-suc-le-suc l))
 
 power-is : (k : ℕ) → k ≤ 9 → powerOf k ≡ 10 ^ k
 power-is k h = eqb-true (powerOf k) (10 ^ k) (at-below 10 (λ k. eqb (powerOf k) (10 ^ k)) refl k (omega arith))
