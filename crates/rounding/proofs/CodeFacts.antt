@@ -47,6 +47,9 @@ quotient-sizes p q a b = cases (leb 100000000 (q .m)) refl
     cases true e = let h = leb-true 100000000 (q .m) e in record { some = omega arith; most = omega (arith, a .most); fits = omega (arith, a .most, b .most) }
     cases false e = record { some = lit< tt; most = lit≤ tt; fits = lit≤ tt }
 
+pub picked-sizes : (p q : Number) → InRange p → InRange q → {n d : ℕ} → n ≡ dividendOf p q → d ≡ divisorOf q → Sizes n d
+picked-sizes p q a b e f = rw (e, f) (quotient-sizes p q a b)
+
 -- ---- the gap between two exponents, cut at nine places
 abbrev pub placesOf : ℕ → ℕ
 placesOf g = cond (ltb g 9) g 9
@@ -77,19 +80,25 @@ part-most dir n k h = divide-most n (10 ^ k) (pow-ten-pos k) dir 1000000000 (ome
 
 -- ---- the summand that comes first, and the other
 module _ (p q : Number) (a : InRange p) (b : InRange q) where
+  abbrev pub firstIs : Number → Number → Number
+  firstIs v w = cond (leb (rankOf q) (rankOf p)) v w
+
+  pub picked-first : (v w : Number) {k l : ℕ} {r : Number} → l ≡ rankOf q → k ≡ rankOf p → r ≡ cond (leb l k) v w → r ≡ firstIs v w
+  picked-first v w e f h = h ∙ rw (e, f)
+
   abbrev Ordered : Number → Number → Type 0
   Ordered r s = InRange r × (InRange s × (rankOf s ≤ rankOf r))
 
-  pub ordered : Ordered (cond (leb (rankOf q) (rankOf p)) p q) (cond (leb (rankOf q) (rankOf p)) q p)
-  ordered = cases (leb (rankOf q) (rankOf p)) refl
+  pub ordered : {g s : Number} → g ≡ firstIs p q → s ≡ firstIs q p → Ordered g s
+  ordered {g} {s} = cases (leb (rankOf q) (rankOf p)) refl
     where
-      cases : (t : Bool) → leb (rankOf q) (rankOf p) ≡ t → Ordered (cond t p q) (cond t q p)
-      cases true e = (a, (b, leb-true (rankOf q) (rankOf p) e))
-      cases false e = (b, (a, omega (arith, leb-false (rankOf q) (rankOf p) e)))
+      cases : (t : Bool) → leb (rankOf q) (rankOf p) ≡ t → g ≡ cond t p q → s ≡ cond t q p → Ordered g s
+      cases true n e f = rw (e, f) (a, (b, leb-true (rankOf q) (rankOf p) n))
+      cases false n e f = rw (e, f) (b, (a, omega (arith, leb-false (rankOf q) (rankOf p) n)))
 
-  pub ordered-sum : (dir : Direction) (g s r : Number) → g ≡ cond (leb (rankOf q) (rankOf p)) p q → s ≡ cond (leb (rankOf q) (rankOf p)) q p → (r ≡ alignedOf dir g s) × Result (g .x) r → (r ≡ sumOf dir p q) × SumResult p q r
+  pub ordered-sum : (dir : Direction) {g s r : Number} → g ≡ firstIs p q → s ≡ firstIs q p → (r ≡ alignedOf dir g s) × Result (g .x) r → (r ≡ sumOf dir p q) × SumResult p q r
   unfolding sumOf
-  ordered-sum dir g s r = cases (leb (rankOf q) (rankOf p))
+  ordered-sum dir {g} {s} {r} = cases (leb (rankOf q) (rankOf p))
     where
       cases : (t : Bool) → g ≡ cond t p q → s ≡ cond t q p → (r ≡ alignedOf dir g s) × Result (g .x) r → (r ≡ cond t (alignedOf dir p q) (alignedOf dir q p)) × SumResult p q r
       cases true e f h = let k : g .x ≡ p .x = ap (λ (v : Number). v .x) e in (cc, record { most = h .1 .most; low = omega (arith, h .1 .low); high = omega (arith, h .1 .high) })
