@@ -32,13 +32,19 @@ def source_faults():
                 yield f"{path.relative_to(CRATES)}: {numbers}"
 
 
+def section_line(line):
+    """The bytes of a printed line: an offset, then 16 bytes at most in 35 columns, then the same as text."""
+    start = line.index(" ", 1) + 1
+    return bytes.fromhex(line[start:start + 35].replace(" ", ""))
+
+
 def read_only(archive):
     """Name and bytes of each read-only section of an archive."""
     printed = subprocess.run(["objdump", "-s", archive], check=True, capture_output=True, text=True).stdout
     for part in printed.split("Contents of section ")[1:]:
         name, _, lines = part.partition(":\n")
         if name.startswith(".rodata"):
-            yield name, b"".join(bytes.fromhex(line[6:41].replace(" ", "")) for line in lines.splitlines() if line.startswith(" "))
+            yield name, b"".join(section_line(line) for line in lines.splitlines() if line.startswith(" "))
 
 
 def section_faults(name, content):

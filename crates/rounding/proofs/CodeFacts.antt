@@ -1,11 +1,11 @@
 -- What the code of the operations needs: sizes that keep every sum and product inside 64 bits, and the shorter forms it computes. Assumes nothing.
 use mathlib.Core.Path.{_≡_, refl, sym, ap, _∙_}
 use mathlib.Core.Bool.{Bool, true, false, cond}
-use Prim.Native.Nat.{ℕ, zero, suc, _+_, _-_, _*_, _/_, _%_, _^_, _≤_, _<_}
-use native.Mathlib.Nat.{mul-le-mul, pow-le-pow-right, lt-of-lt-of-le, le-of-suc-le-suc, not-suc-le-zero, eq-or-lt-of-le}
+use Prim.Native.Nat.{ℕ, _+_, _-_, _*_, _^_, _≤_, _<_}
+use native.Mathlib.Nat.{mul-le-mul, pow-le-pow-right, lt-of-lt-of-le}
 use native.Mathlib.Omega.{arith}
-use lib.Dec.{eqb, ltb, leb, lit<, lit≤}
-use borrow.Author.Tests.{eqb-true, ltb-true, ltb-false, leb-true, leb-false}
+use lib.Dec.{ltb, leb, lit<, lit≤}
+use borrow.Author.Tests.{ltb-true, ltb-false, leb-true, leb-false}
 use Rattle.rounding.specs.declared.Direction.{Direction}
 use Rattle.rounding.specs.declared.Direction.the-variants.{Down, Up}
 use Rattle.rounding.specs.declared.Number.{Number}
@@ -20,13 +20,14 @@ extra-most Down d = omega arith
 extra-most Up d = omega arith
 
 -- ---- the shorter quotient is picked field by field
-pub cut-is : (dir : Direction) (q x : ℕ) → record { m = cond (ltb q 1000000000) q (divideOf dir q 10); x = cond (ltb q 1000000000) x (x + 1) } ≡ cutOf dir q x
+pub cut-is : (dir : Direction) (q x : ℕ) {tenth m y : ℕ} → tenth ≡ divideOf dir q 10 → m ≡ cond (ltb q 1000000000) q tenth → y ≡ cond (ltb q 1000000000) x (x + 1) →
+    record { m = m; x = y } ≡ cutOf dir q x
 unfolding cutOf
-cut-is dir q x = cases (ltb q 1000000000)
+cut-is dir q x {tenth} {m} {y} e = cases (ltb q 1000000000)
   where
-    cases : (b : Bool) → _≡_ {A = Number} (record { m = cond b q (divideOf dir q 10); x = cond b x (x + 1) }) (cond b (record { m = q; x = x }) (record { m = divideOf dir q 10; x = x + 1 }))
-    cases true = refl
-    cases false = refl
+    cases : (b : Bool) → m ≡ cond b q tenth → y ≡ cond b x (x + 1) → _≡_ {A = Number} (record { m = m; x = y }) (cond b (record { m = q; x = x }) (record { m = divideOf dir q 10; x = x + 1 }))
+    cases true f g = rw (f, g) refl
+    cases false f g = rw (f, g, e) refl
 
 pub power-most : (k j : ℕ) → k ≤ j → 10 ^ k ≤ 10 ^ j
 power-most k j h = pow-le-pow-right {n = 10} (lit< tt) {i = k} {j = j} h
@@ -78,28 +79,32 @@ aligned-is dir p q h =
 pub part-most : (dir : Direction) (n k : ℕ) → n < 1000000000 → divideOf dir n (10 ^ k) ≤ 1000000000
 part-most dir n k h = divide-most n (10 ^ k) (pow-ten-pos k) dir 1000000000 (omega (arith, h, pow-ten-pos k))
 
+-- ---- whether the first of two summands comes first in the sum
+abbrev pub comesFirst : Number → Number → Bool
+comesFirst p q = leb (rankOf q) (rankOf p)
+
+pub picked-first : (p q v w : Number) {k l : ℕ} {r : Number} → l ≡ rankOf q → k ≡ rankOf p → r ≡ cond (leb l k) v w → r ≡ cond (comesFirst p q) v w
+picked-first p q v w e f h = h ∙ rw (e, f)
+
 -- ---- the summand that comes first, and the other
 module _ (p q : Number) (a : InRange p) (b : InRange q) where
-  abbrev pub firstIs : Number → Number → Number
-  firstIs v w = cond (leb (rankOf q) (rankOf p)) v w
-
-  pub picked-first : (v w : Number) {k l : ℕ} {r : Number} → l ≡ rankOf q → k ≡ rankOf p → r ≡ cond (leb l k) v w → r ≡ firstIs v w
-  picked-first v w e f h = h ∙ rw (e, f)
-
   abbrev Ordered : Number → Number → Type 0
   Ordered r s = InRange r × (InRange s × (rankOf s ≤ rankOf r))
 
-  pub ordered : {g s : Number} → g ≡ firstIs p q → s ≡ firstIs q p → Ordered g s
-  ordered {g} {s} = cases (leb (rankOf q) (rankOf p)) refl
+  pub ordered : {g s : Number} → g ≡ cond (comesFirst p q) p q → s ≡ cond (comesFirst p q) q p → Ordered g s
+  ordered {g} {s} = cases (comesFirst p q) refl
     where
-      cases : (t : Bool) → leb (rankOf q) (rankOf p) ≡ t → g ≡ cond t p q → s ≡ cond t q p → Ordered g s
+      cases : (t : Bool) → comesFirst p q ≡ t → g ≡ cond t p q → s ≡ cond t q p → Ordered g s
       cases true n e f = rw (e, f) (a, (b, leb-true (rankOf q) (rankOf p) n))
       cases false n e f = rw (e, f) (b, (a, omega (arith, leb-false (rankOf q) (rankOf p) n)))
 
-  pub ordered-sum : (dir : Direction) {g s r : Number} → g ≡ firstIs p q → s ≡ firstIs q p → (r ≡ alignedOf dir g s) × Result (g .x) r → (r ≡ sumOf dir p q) × SumResult p q r
+  abbrev AlignedTo : Direction → Number → Number → Number → Type 0
+  AlignedTo dir g s r = (r ≡ alignedOf dir g s) × Result (g .x) r
+
+  pub ordered-sum : (dir : Direction) {g s r : Number} → g ≡ cond (comesFirst p q) p q → s ≡ cond (comesFirst p q) q p → AlignedTo dir g s r → (r ≡ sumOf dir p q) × SumResult p q r
   unfolding sumOf
-  ordered-sum dir {g} {s} {r} = cases (leb (rankOf q) (rankOf p))
+  ordered-sum dir {g} {s} {r} = cases (comesFirst p q)
     where
-      cases : (t : Bool) → g ≡ cond t p q → s ≡ cond t q p → (r ≡ alignedOf dir g s) × Result (g .x) r → (r ≡ cond t (alignedOf dir p q) (alignedOf dir q p)) × SumResult p q r
+      cases : (t : Bool) → g ≡ cond t p q → s ≡ cond t q p → AlignedTo dir g s r → (r ≡ cond t (alignedOf dir p q) (alignedOf dir q p)) × SumResult p q r
       cases true e f h = let k : g .x ≡ p .x = ap (λ (v : Number). v .x) e in (cc, record { most = h .1 .most; low = omega (arith, h .1 .low); high = omega (arith, h .1 .high) })
       cases false e f h = let k : g .x ≡ q .x = ap (λ (v : Number). v .x) e in (cc, record { most = h .1 .most; low = omega (arith, h .1 .low); high = omega (arith, h .1 .high) })

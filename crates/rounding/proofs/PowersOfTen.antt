@@ -5,35 +5,24 @@ use mathlib.Core.Logic.{_⊎_, inl, inr}
 use Prim.Native.Nat.{ℕ, zero, suc, _*_, _/_, _%_, _^_, _≤_, _<_}
 use native.Mathlib.Nat.{mul-le-mul, le-of-suc-le-suc, not-suc-le-zero, eq-or-lt-of-le}
 use native.Mathlib.Omega.{arith}
-use lib.Dec.{eqb, lit≤}
+use lib.Dec.{eqb}
 use borrow.Author.Tests.{eqb-true}
 use Rattle.rounding.specs.Sizes.{nineDigits, tenDigits}
+use Rattle.rounding.proofs.Greatest.{pow-ten-pos}
 
--- ---- the factors: 10 and, each the square of the one before, 10^2, 10^4 and 10^8
-abbrev pub second : ℕ
-second = 10 * 10
+-- ---- the factor that a binary digit of the exponent chooses: 10^j where it is 1, else 1
+abbrev pub factor : ℕ → ℕ → ℕ
+factor digit j = cond (eqb digit 1) (10 ^ j) 1
 
-abbrev pub fourth : ℕ
-fourth = second * second
-
-abbrev pub eighth : ℕ
-eighth = fourth * fourth
-
--- ---- a binary digit of the exponent chooses each
-abbrev pub firstChosen : ℕ → ℕ
-firstChosen k = cond (eqb (k % 2) 1) 10 1
-
-abbrev pub secondChosen : ℕ → ℕ
-secondChosen k = cond (eqb (k / 2 % 2) 1) second 1
-
-abbrev pub fourthChosen : ℕ → ℕ
-fourthChosen k = cond (eqb (k / 4 % 2) 1) fourth 1
-
-abbrev pub eighthChosen : ℕ → ℕ
-eighthChosen k = cond (eqb (k / 8) 1) eighth 1
+factor-most : (digit j : ℕ) → factor digit j ≤ 10 ^ j
+factor-most digit j = cases (eqb digit 1)
+  where
+    cases : (t : Bool) → cond t (10 ^ j) 1 ≤ 10 ^ j
+    cases true = omega arith
+    cases false = pow-ten-pos j
 
 abbrev powerOf : ℕ → ℕ
-powerOf k = firstChosen k * secondChosen k * (fourthChosen k * eighthChosen k)
+powerOf k = factor (k % 2) 1 * factor (k / 2 % 2) 2 * (factor (k / 4 % 2) 4 * factor (k / 8) 8)
 
 -- ---- their product is the power: one test that antt computes for the ten exponents
 -- the test passes at each number below n
@@ -68,14 +57,10 @@ pub record Chosen (k a b c d : ℕ) : Type 0 where
   pub all : a * b * (c * d) ≤ 1000000000000000
   pub power : a * b * (c * d) ≡ 10 ^ k
 
-factor-most : (t : Bool) (a : ℕ) → 1 ≤ a → cond t a 1 ≤ a
-factor-most true a h = omega arith
-factor-most false a h = h
-
-pub chosen : (k : ℕ) → k ≤ 9 → {a b c d : ℕ} → a ≡ firstChosen k → b ≡ secondChosen k → c ≡ fourthChosen k → d ≡ eighthChosen k → Chosen k a b c d
+pub chosen : (k : ℕ) → k ≤ 9 → {a b c d : ℕ} → a ≡ factor (k % 2) 1 → b ≡ factor (k / 2 % 2) 2 → c ≡ factor (k / 4 % 2) 4 → d ≡ factor (k / 8) 8 → Chosen k a b c d
 chosen k most {a} {b} {c} {d} e f g h =
-    let p : a ≤ 10 = rw e (factor-most (eqb (k % 2) 1) 10 (lit≤ tt)) in
-    let q : b ≤ second = rw f (factor-most (eqb (k / 2 % 2) 1) second (lit≤ tt)) in
-    let r : c ≤ fourth = rw g (factor-most (eqb (k / 4 % 2) 1) fourth (lit≤ tt)) in
-    let s : d ≤ eighth = rw h (factor-most (eqb (k / 8) 1) eighth (lit≤ tt)) in
+    let p : a ≤ 10 ^ 1 = rw e (factor-most (k % 2) 1) in
+    let q : b ≤ 10 ^ 2 = rw f (factor-most (k / 2 % 2) 2) in
+    let r : c ≤ 10 ^ 4 = rw g (factor-most (k / 4 % 2) 4) in
+    let s : d ≤ 10 ^ 8 = rw h (factor-most (k / 8) 8) in
     record { low = mul-le-mul p q; high = mul-le-mul r s; all = mul-le-mul (mul-le-mul p q) (mul-le-mul r s); power = rw (e, f, g, h) (power-is k most) }

@@ -38,8 +38,8 @@ partOf c k = divideOf (start c .args .dir) (start c .args .q .m) (10 ^ k)
 part : (c : tie.After-divide) → c .divide .result ≡ partOf (powered c) (picked (powered c) .pick .result)
 part c = c .divide .ensures ∙ ap (divideOf (start (powered c) .args .dir) (start (powered c) .args .q .m)) (powered c .power .ensures)
 
-part-least : (c : tie.After-divide) → c .divide .result ≤ 1000000000
-part-least c = let s = start (powered c) in rw (part c) (part-most (s .args .dir) (s .args .q .m) (picked (powered c) .pick .result) (s .pre .1 .0 .most))
+part-size : (c : tie.After-divide) → c .divide .result ≤ 1000000000
+part-size c = let s = start (powered c) in rw (part c) (part-most (s .args .dir) (s .args .q .m) (picked (powered c) .pick .result) (s .pre .1 .0 .most))
 
 -- ---- the calls
 rank-requires : tie.Need-rank-requires
@@ -63,12 +63,12 @@ divide-requires c κs =
     omega (arith, c .power .ensures, pow-ten-pos k, power-most k 9 (most-places c), start c .pre .1 .0 .most)
 
 add-cut : tie.Need-add-cut
-add-cut c = omega (arith, start (powered (c .before)) .pre .0 .most, part-least (c .before))
+add-cut c = omega (arith, start (powered (c .before)) .pre .0 .most, part-size (c .before))
 
 cut-requires : tie.Need-cut-requires
 cut-requires c κs =
     let s = start (powered (c .before)) in
-    omega (arith, s .pre .0 .most, s .pre .0 .high, part-least (c .before))
+    omega (arith, s .pre .0 .most, s .pre .0 .high, part-size (c .before))
 
 returns : tie.Need-returns
 returns c =

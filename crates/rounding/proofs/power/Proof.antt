@@ -6,18 +6,18 @@ use borrow.Author.Needs.{needs}
 use Rattle.rounding.proofs.power.Statement.{statement}
 use Rattle.rounding.proofs.power.Tie as tie
 
--- ---- the places: where the exponent came in, and where each of the four factors was chosen
-abbrev third : tie.After-pick4 → tie.After-pick3
-third c = c .before
+-- ---- the places: where the binary digits of the exponent, ones, twos and fours, chose their factors, and the exponent
+abbrev fours : tie.After-pick4 → tie.After-pick3
+fours c = c .before
 
-abbrev second : tie.After-pick4 → tie.After-pick2
-second c = third c .before
+abbrev twos : tie.After-pick4 → tie.After-pick2
+twos c = fours c .before
 
-abbrev first : tie.After-pick4 → tie.After-pick
-first c = second c .before
+abbrev ones : tie.After-pick4 → tie.After-pick
+ones c = twos c .before
 
 abbrev exponent : tie.After-pick4 → ℕ
-exponent c = first c .before .args .k
+exponent c = ones c .before .args .k
 
 -- ---- the squares fit
 mul-second : tie.Need-mul-second
@@ -41,9 +41,9 @@ pick-requires-3 c κs = search needs
 pick-requires-4 : tie.Need-pick-requires-4
 pick-requires-4 c κs = search needs
 
--- ---- and so do the products of the chosen factors
-factors : (c : tie.After-pick4) → Chosen (exponent c) (first c .pick .result) (second c .pick2 .result) (third c .pick3 .result) (c .pick4 .result)
-factors c = chosen (exponent c) (first c .before .pre) (first c .pick .ensures) (second c .pick2 .ensures) (third c .pick3 .ensures) (c .pick4 .ensures)
+-- ---- and so do the products of the chosen factors, of which the last is the power
+factors : (c : tie.After-pick4) → Chosen (exponent c) (ones c .pick .result) (twos c .pick2 .result) (fours c .pick3 .result) (c .pick4 .result)
+factors c = chosen (exponent c) (ones c .before .pre) (ones c .pick .ensures) (twos c .pick2 .ensures) (fours c .pick3 .ensures) (c .pick4 .ensures)
 
 mul-result : tie.Need-mul-result
 mul-result c = omega (arith, factors c .low)

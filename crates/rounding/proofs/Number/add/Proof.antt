@@ -1,9 +1,10 @@
 -- `rounding::Number::add` meets its contract. Assumes nothing.
 use mathlib.Core.Path.{_≡_, sym}
+use mathlib.Core.Bool.{cond}
 use native.Mathlib.Omega.{arith}
 use Rattle.rounding.specs.declared.Number.{Number}
 use Rattle.rounding.specs.Number.{InRange}
-use Rattle.rounding.proofs.CodeFacts.{firstIs, picked-first, ordered, ordered-sum}
+use Rattle.rounding.proofs.CodeFacts.{comesFirst, picked-first, ordered, ordered-sum}
 use Rattle.rounding.proofs.ExactResults.{sum-zero-right}
 use borrow.Author.Needs.{needs}
 use Rattle.rounding.proofs.Number.add.Statement.{statement}
@@ -30,11 +31,11 @@ module _ (c : tie.After-choose2) where
   abbrev b : InRange q
   b = start c .pre .1
 
-  great : c .before .choose .result ≡ firstIs p q a b p q
-  great = picked-first p q a b p q (ranked c .before .rank .ensures) (ranked c .rank2 .ensures) (c .before .choose .ensures)
+  great : c .before .choose .result ≡ cond (comesFirst p q) p q
+  great = picked-first p q p q (ranked c .before .rank .ensures) (ranked c .rank2 .ensures) (c .before .choose .ensures)
 
-  small : c .choose2 .result ≡ firstIs p q a b q p
-  small = picked-first p q a b q p (ranked c .before .rank .ensures) (ranked c .rank2 .ensures) (c .choose2 .ensures)
+  small : c .choose2 .result ≡ cond (comesFirst p q) q p
+  small = picked-first p q q p (ranked c .before .rank .ensures) (ranked c .rank2 .ensures) (c .choose2 .ensures)
 
 -- ---- the calls
 returns : tie.Need-returns
