@@ -1,4 +1,6 @@
 // Puts one block into the first 512 bytes of what is lent: header, contaminant, result, summary.
+#![tactic(auto)]
+
 ghost use Rattle.std.specs.Prelude.{◌≡◌, ◌≤◌, length};
 ghost use Rattle.block_rules.specs.Rules.{block_size};
 ghost use Rattle.words.specs.Bytes.{placed, le4, over};

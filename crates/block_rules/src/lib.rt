@@ -1,4 +1,6 @@
 // What is read from a block. The layouts are in specs/, what is read back of them in proofs/; there is no function.
+#![tactic(auto)]
+
 use inputs::{Contaminant, Scenario};
 use outcome::Refusal;
 
@@ -9,7 +11,7 @@ pub const BLOCK_SIZE: usize = 512;
 pub const STRUCT_SIZE: usize = 500;
 
 // What a header block holds: the medium (1 soil, 2 water), how many contaminants follow, the scenario.
-#[derive(Drop)]
+#[derive(Clone, Copy)]
 pub struct Header {
     pub medium: u32,
     pub count: u32,
@@ -17,14 +19,14 @@ pub struct Header {
 }
 
 // A header, or why its block is refused.
-#[derive(Drop)]
+#[derive(Clone, Copy)]
 pub enum HeaderRead {
     Found(Header),
     Refused(Refusal),
 }
 
 // A contaminant, or why its block is refused.
-#[derive(Drop)]
+#[derive(Clone, Copy)]
 pub enum ContaminantRead {
     Found(Contaminant),
     Refused(Refusal),

@@ -1,4 +1,6 @@
 // Reading the blocks of a site: the header and the contaminants.
+#![tactic(auto)]
+
 ghost use Rattle.std.specs.Prelude.{◌≡◌, ◌+◌, ◌≤◌, eqb, length};
 ghost use Rattle.words.specs.Words.{part_of};
 ghost use Rattle.block_rules.specs.Rules.{in_file, count_ok, block_size, struct_size};

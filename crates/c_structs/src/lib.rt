@@ -1,4 +1,6 @@
 // The structs and words of the C header: a header or a contaminant out of its bytes, the eight guidelines into theirs, and answers as a word.
+#![tactic(auto)]
+
 ghost use Rattle.std.specs.Prelude.{◌≡◌, ◌≤◌, ◌<◌, length};
 ghost use Rattle.fields.specs.Fields.{field_bytes};
 ghost use Rattle.words.specs.Bytes.{over};

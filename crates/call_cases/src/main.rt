@@ -2,6 +2,8 @@
 // lowest first, the call, its argument and a count, and then the blocks that the call takes: the first 128 bytes of each,
 // which hold all that is read here. The checks of a block are left out, so that values which no file may hold reach the calls
 // too. Each case prints a line: the number of its call, and what came back. The crates value_calls and writer_calls run the calls.
+#![tactic(auto)]
+
 use libc::{STDIN_FILENO, STDOUT_FILENO};
 use value_calls::{run_built_in, run_decimals, run_guideline, run_list};
 use writer_calls::run_writer;

@@ -1,5 +1,7 @@
 // What the program call_cases reads from standard input, and the loan of a list's first records to the list call. The checks
 // of a block are left out, so that values which no file may hold reach the calls too.
+#![tactic(auto)]
+
 ghost use Rattle.std.specs.Prelude.{◌≡◌, ◌≤◌, take};
 ghost use Rattle.sum_rules.specs.ListCall.{sums_of};
 
@@ -23,7 +25,7 @@ pub fn read_contaminant() -> Contaminant {
 }
 
 // The records of a list.
-#[derive(Drop)]
+#[derive(Clone, Copy)]
 pub struct Records {
     pub list: [Contaminant; 121],
 }

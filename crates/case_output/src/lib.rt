@@ -1,4 +1,6 @@
 // What the programs of stored cases print: numbers and decimals, a space before each, and the weighed bytes of an output.
+#![tactic(auto)]
+
 ghost use Rattle.std.specs.Prelude.{◌≤◌, length};
 
 use decimal::Decimal;

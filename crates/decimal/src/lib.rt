@@ -1,4 +1,6 @@
 // Decimals (m, e) worth m * 10^e, multiplied, divided and added with the result rounded down or up.
+#![tactic(auto)]
+
 ghost use Rattle.std.specs.Prelude.{◌≡◌, ◌≤◌};
 ghost use Rattle.std.proofs.Math.IntN.{sub_ℕ};
 ghost use Rattle.rounding.specs.Sizes.{bias};
@@ -9,7 +11,7 @@ use rounding::{BIAS, Direction, NINE_DIGITS, Number, TEN_DIGITS};
 
 // m * 10^e. In a file m is at most 999,999,999, e is from -20 to 20, and m = 0 has e = 0.
 // A working decimal is (0, 0) or has nine digits.
-#[derive(Drop)]
+#[derive(Clone, Copy)]
 pub struct Decimal {
     pub m: u32,
     pub e: i32,
@@ -86,7 +88,7 @@ fn operand(r: Number) -> bool
 }
 
 // Two decimals with biased exponents, and whether both are operands.
-#[derive(Drop)]
+#[derive(Clone, Copy)]
 struct Pair {
     good: bool,
     p: Number,

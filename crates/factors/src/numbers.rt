@@ -10,7 +10,7 @@ use decimal::Decimal;
 use inputs::{Contact, Contaminant, Exposure, Scenario, Targets, Toxicity, Transfer};
 use rounding::Number;
 
-#[derive(Drop)]
+#[derive(Clone, Copy)]
 pub struct ExposureNumbers {
     pub ef: Number,
     pub ed: Number,
@@ -18,7 +18,7 @@ pub struct ExposureNumbers {
     pub at: Number,
 }
 
-#[derive(Drop)]
+#[derive(Clone, Copy)]
 pub struct ContactNumbers {
     pub ir: Number,
     pub ira: Number,
@@ -28,21 +28,21 @@ pub struct ContactNumbers {
     pub sa: Number,
 }
 
-#[derive(Drop)]
+#[derive(Clone, Copy)]
 pub struct TargetNumbers {
     pub tr: Number,
     pub thi: Number,
 }
 
 // The factors of a scenario.
-#[derive(Drop)]
+#[derive(Clone, Copy)]
 pub struct Factors {
     pub exposure: ExposureNumbers,
     pub contact: ContactNumbers,
     pub targets: TargetNumbers,
 }
 
-#[derive(Drop)]
+#[derive(Clone, Copy)]
 pub struct ToxicityNumbers {
     pub sfo: Number,
     pub sfi: Number,
@@ -51,14 +51,14 @@ pub struct ToxicityNumbers {
     pub rfdi: Number,
 }
 
-#[derive(Drop)]
+#[derive(Clone, Copy)]
 pub struct TransferNumbers {
     pub vf: Number,
     pub pc: Number,
 }
 
 // The decimals of a contaminant that a formula names: all but its concentration.
-#[derive(Drop)]
+#[derive(Clone, Copy)]
 pub struct ContaminantNumbers {
     pub toxicity: ToxicityNumbers,
     pub transfer: TransferNumbers,

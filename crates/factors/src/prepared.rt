@@ -31,7 +31,7 @@ pub const DAYS: Number = Number {
 
 // The scenario's factors, and in a direction: the divisor BW, AT, 365 of every risk term of a chemical
 // (rounded the other way); the dividends of hazard by ingestion of soil, of water and by vapour; and 1 / PEF.
-#[derive(Drop)]
+#[derive(Clone, Copy)]
 pub struct Prepared {
     pub factors: Factors,
     pub lifetime: Number,

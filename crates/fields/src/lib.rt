@@ -1,4 +1,6 @@
 // Decimal fields of eight bytes in byte slices: m (4 bytes), e (2, two's complement), two zero bytes.
+#![tactic(auto)]
+
 ghost use Rattle.std.specs.Prelude.{◌≡◌, [], ◌∷◌, ◌+◌, ◌*◌, ◌≤◌, ◌<◌, length};
 ghost use Rattle.words.specs.Bytes.{placed};
 ghost use Rattle.fields.specs.Fields.{half_at, signed_of, code_of, decimal_at, unused_zero, field, field_bytes};

@@ -1,1 +1,3 @@
 // The formulas of the terms, rounded and exact: definitions and theorems, no function.
+
+#![tactic(auto)]

@@ -1,4 +1,6 @@
 // The groups of decimals of a scenario and of a contaminant in lent bytes: read, and written.
+#![tactic(auto)]
+
 ghost use Rattle.std.specs.Prelude.{◌≡◌, ◌+◌, ◌≤◌, length};
 ghost use Rattle.words.specs.Bytes.{placed};
 ghost use Rattle.fields.specs.Fields.{decimals_at, field_bytes};

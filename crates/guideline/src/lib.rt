@@ -1,4 +1,6 @@
 // The single guideline: from one scenario, one medium and one contaminant to the concentrations that may stay.
+#![tactic(auto)]
+
 ghost use Rattle.std.specs.Prelude.{◌≡◌};
 ghost use Rattle.rounding.specs.declared.Direction.TheVariants.{Down};
 ghost use Rattle.rounding.specs.Number.{InRange};
@@ -22,7 +24,7 @@ const BELOW: u64 = BIAS - 1000;
 const ABOVE: u64 = BIAS + 1000;
 
 // The guidelines of a side as numbers, with the sum of the terms.
-#[derive(Drop)]
+#[derive(Clone, Copy)]
 pub struct Column {
     pub first: Number,
     pub second: Number,
@@ -32,7 +34,7 @@ pub struct Column {
 }
 
 // Those of both sides.
-#[derive(Drop)]
+#[derive(Clone, Copy)]
 pub struct Columns {
     pub risk: Column,
     pub hazard: Column,

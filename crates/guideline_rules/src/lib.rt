@@ -1,9 +1,11 @@
 // The answer of the single guideline. The rules are in specs/ and the promises in proofs/; there is no function.
+#![tactic(auto)]
+
 use decimal::Decimal;
 use outcome::Refusal;
 
 // The guidelines of a side: three pathways and the total; zero where absent.
-#[derive(Drop)]
+#[derive(Clone, Copy)]
 pub struct SideGuidelines {
     pub first: Decimal,
     pub second: Decimal,
@@ -12,7 +14,7 @@ pub struct SideGuidelines {
 }
 
 // The answer: accepted with the guidelines of both sides, or a refusal, its block and zeros.
-#[derive(Drop)]
+#[derive(Clone, Copy)]
 pub struct GuidelineAnswer {
     pub refusal: Refusal,
     pub block: u32,

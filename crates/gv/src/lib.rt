@@ -1,4 +1,6 @@
 // The functions of the C library. Each takes numbers and lent bytes, and calls the proved function behind it.
+#![tactic(auto)]
+
 ghost use Rattle.std.specs.Prelude.{◌≡◌, length};
 ghost use Rattle.outcome.specs.Outcome.{number_of};
 ghost use Rattle.block_rules.specs.Answers.{header_refusal, header_left, contaminant_refusal, contaminant_left};

@@ -1,4 +1,6 @@
 // gvlist: reads a site on standard input and prints its listing.
+#![tactic(auto)]
+
 ghost use Rattle.std.specs.Prelude.{◌≡◌, ◌≤◌, length, take};
 ghost use Rattle.io.specs.Counts.{IsPrefixLen};
 ghost use Rattle.listing_rules.specs.Listing.{listing_of};
@@ -6,7 +8,7 @@ ghost use Rattle.listing_rules.specs.Listing.{listing_of};
 use libc::{STDERR_FILENO, STDIN_FILENO, STDOUT_FILENO};
 
 // What was read: how many bytes stand at the start of the buffer, and whether every read went well.
-#[derive(Drop)]
+#[derive(Clone, Copy)]
 struct Input {
     length: usize,
     good: bool,

@@ -1,4 +1,6 @@
 // A land-use scenario and a contaminant record, as a file or a caller gives them.
+#![tactic(auto)]
+
 ghost use Rattle.std.specs.Prelude.{◌&&◌, ◌≡◌};
 ghost use Rattle.inputs.specs.BuiltIn.{built_in_of};
 ghost use Rattle.inputs.specs.Inputs.{exposure_decimals, contact_decimals, target_decimals, toxicity_decimals, transfer_decimals, scenario_decimals, contaminant_decimals};
@@ -20,7 +22,7 @@ const GREATEST: u64 = BIAS + 20;
 // Zero means not known, or not part of this scenario, in every decimal below.
 // How often and how long, and of whom: exposure frequency, days per year; exposure duration, years; body weight, kg;
 // averaging time, years.
-#[derive(Drop)]
+#[derive(Clone, Copy)]
 pub struct Exposure {
     pub ef: Decimal,
     pub ed: Decimal,
@@ -30,7 +32,7 @@ pub struct Exposure {
 
 // How much meets the body: ingestion, mg of soil or litres of water a day; inhalation, m³ a day; particulate emission factor,
 // m³/kg; hours a day, outdoors or with skin in water; dose reduction factor; skin, cm².
-#[derive(Drop)]
+#[derive(Clone, Copy)]
 pub struct Contact {
     pub ir: Decimal,
     pub ira: Decimal,
@@ -41,14 +43,14 @@ pub struct Contact {
 }
 
 // Target risk and target hazard.
-#[derive(Drop)]
+#[derive(Clone, Copy)]
 pub struct Targets {
     pub tr: Decimal,
     pub thi: Decimal,
 }
 
 // A land-use scenario.
-#[derive(Drop)]
+#[derive(Clone, Copy)]
 pub struct Scenario {
     pub exposure: Exposure,
     pub contact: Contact,
@@ -56,7 +58,7 @@ pub struct Scenario {
 }
 
 // Slope factors, oral, inhaled and external; reference doses, oral and inhaled.
-#[derive(Drop)]
+#[derive(Clone, Copy)]
 pub struct Toxicity {
     pub sfo: Decimal,
     pub sfi: Decimal,
@@ -66,14 +68,14 @@ pub struct Toxicity {
 }
 
 // Volatilization factor, m³/kg, and skin permeability, cm/hr.
-#[derive(Drop)]
+#[derive(Clone, Copy)]
 pub struct Transfer {
     pub vf: Decimal,
     pub pc: Decimal,
 }
 
 // A contaminant: its class (1 chemical, 2 radionuclide), its id, and its measured concentration C.
-#[derive(Drop)]
+#[derive(Clone, Copy)]
 pub struct Contaminant {
     pub class: u32,
     pub id: u32,
@@ -83,7 +85,7 @@ pub struct Contaminant {
 }
 
 // A built-in scenario, or refusal 11 in block 0 with zero decimals.
-#[derive(Drop)]
+#[derive(Clone, Copy)]
 pub struct BuiltIn {
     pub refusal: Refusal,
     pub block: u32,

@@ -1,5 +1,7 @@
 // The lines of the listing, put into lent bytes. Each function gives the place after what it put, and asks for a round
 // number of bytes that is never used up. A place on the way is named after what is put there.
+#![tactic(auto)]
+
 ghost use Rattle.std.specs.Prelude.{◌≡◌, ◌+◌, ◌≤◌, length};
 ghost use Rattle.words.specs.Bytes.{placed};
 ghost use Rattle.listing_rules.specs.Lines.{spaced, line_of, lines_of, sum_line, refusal_line};

@@ -1,4 +1,6 @@
 // The list call: the sums and the verdicts of a lent list of contaminants, record by record.
+#![tactic(auto)]
+
 ghost use Rattle.std.specs.Prelude.{◌≡◌};
 ghost use Rattle.sum_rules.specs.ListCall.{sums_of};
 

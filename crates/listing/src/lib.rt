@@ -1,4 +1,6 @@
 // The listing of a site: its guidelines, sums and verdicts as text.
+#![tactic(auto)]
+
 ghost use Rattle.std.specs.Prelude.{◌≡◌, ◌+◌, ◌≤◌, length};
 ghost use Rattle.block_rules.specs.Rules.{block_size};
 ghost use Rattle.words.specs.Bytes.{placed, over};
@@ -12,7 +14,7 @@ use guideline_rules::SideGuidelines;
 use sum_rules::SumsAnswer;
 
 // The answer of the site call, and the listing's length.
-#[derive(Drop)]
+#[derive(Clone, Copy)]
 pub struct Listed {
     pub answer: SumsAnswer,
     pub length: usize,

@@ -1,1 +1,3 @@
 // The listing as text: definitions and theorems, no function.
+
+#![tactic(auto)]

@@ -1,4 +1,6 @@
 // The single guideline worked out by the site call, on a site of one contaminant that is written for it.
+#![tactic(auto)]
+
 ghost use Rattle.std.specs.Prelude.{◌≡◌, ◌<◌, length};
 ghost use Rattle.guideline_rules.specs.Guideline.{guideline_of};
 ghost use Rattle.one_contaminant.specs.Single.{Single};

@@ -1,9 +1,11 @@
 // What a call sends back: accepted, or one of eleven refusals.
+#![tactic(auto)]
+
 ghost use Rattle.std.specs.Prelude.{◌≡◌, eqb};
 ghost use Rattle.outcome.specs.Outcome.{number_of};
 
 // The word of each refusal, in the order of their numbers.
-#[derive(Drop)]
+#[derive(Clone, Copy)]
 pub enum Refusal {
     Accepted,
     Length,
@@ -20,7 +22,7 @@ pub enum Refusal {
 }
 
 // The answer of a call that has nothing else to say: the refusal and the block that it concerns.
-#[derive(Drop)]
+#[derive(Clone, Copy)]
 pub struct Answer {
     pub refusal: Refusal,
     pub block: u32,

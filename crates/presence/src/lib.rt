@@ -1,4 +1,6 @@
 // Whether a contaminant has a pathway, by which decimals are zero alone: no term is worked out.
+#![tactic(auto)]
+
 ghost use Rattle.std.specs.Prelude.{◌≡◌, ◌&&◌, ◌||◌};
 ghost use Rattle.guideline_rules.specs.Pathway.{either_side, record_refusal};
 ghost use Rattle.presence.specs.Presence.{known_values, either_known, chemical_of, Needed};

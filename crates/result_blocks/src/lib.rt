@@ -1,4 +1,6 @@
 // The result blocks of a site in the output: each contaminant worked out and written at its place, then the summary.
+#![tactic(auto)]
+
 ghost use Rattle.std.specs.Prelude.{◌≡◌, ◌++◌, ◌+◌, ◌*◌, ◌≤◌, length, take};
 ghost use Rattle.block_rules.specs.Rules.{block_size};
 ghost use Rattle.words.specs.Bytes.{over};

@@ -1,6 +1,8 @@
 // Numbers of nine digits with a biased exponent, multiplied, divided and added in a direction: what everything is worked
 // out on. Each operation is a method by value and asks that its operands are in range: a Decimal's methods, which stand on
 // these, test their operands; a formula's operands are in range by proof.
+#![tactic(auto)]
+
 ghost use Rattle.std.specs.Prelude.{◌≡◌, ◌+◌, ◌-◌, ◌*◌, ◌^◌, ◌≤◌, ◌<◌, leb, cond};
 ghost use Rattle.rounding.specs.Sizes.{ten_digits, bias};
 ghost use Rattle.rounding.specs.Round.{extra_of, divide_of, cut_of};
@@ -23,14 +25,14 @@ const NINE_PLACES: u64 = BIAS - 8;
 const TEN_PLACES: u64 = BIAS - 9;
 
 // Which way a result is rounded.
-#[derive(Drop)]
+#[derive(Clone, Copy)]
 pub enum Direction {
     Down,
     Up,
 }
 
 // The number m * 10^(x - 3000). Zero is m = 0, with any x.
-#[derive(Drop)]
+#[derive(Clone, Copy)]
 pub struct Number {
     pub m: u64,
     pub x: u64,

@@ -1,4 +1,6 @@
 // What one record adds to the running sums of both sides, from what a scenario in a medium gives once to every record.
+#![tactic(auto)]
+
 ghost use Rattle.std.specs.Prelude.{◌≡◌, true};
 ghost use Rattle.inputs.specs.Inputs.{scenario_decimals};
 ghost use Rattle.inputs.specs.Valid.{all_valid};
@@ -20,7 +22,7 @@ const MOST: usize = inputs::MOST_CONTAMINANTS as usize;
 
 // What does not change from record to record: the scenario, the medium, and what is worked out of them in both
 // directions; and the refusal that comes before the first record.
-#[derive(Drop)]
+#[derive(Clone, Copy)]
 pub struct Plan {
     pub scenario: Scenario,
     pub medium: u32,
@@ -30,7 +32,7 @@ pub struct Plan {
 }
 
 // A record's upper terms, the sums of its lower terms on each side, and its concentration.
-#[derive(Drop)]
+#[derive(Clone, Copy)]
 pub struct Worked {
     pub above: Terms,
     pub risk: Number,
@@ -39,7 +41,7 @@ pub struct Worked {
 }
 
 // The running sums of a side, as numbers, and whether a contaminant had a pathway there.
-#[derive(Drop)]
+#[derive(Clone, Copy)]
 pub struct SideRun {
     pub lower: Number,
     pub upper: Number,
@@ -47,7 +49,7 @@ pub struct SideRun {
 }
 
 // The running sums of both sides.
-#[derive(Drop)]
+#[derive(Clone, Copy)]
 pub struct Runs {
     pub risk: SideRun,
     pub hazard: SideRun,

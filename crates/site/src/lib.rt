@@ -1,4 +1,6 @@
 // The site call: the blocks of a site are checked one by one; then each has its result block in the output.
+#![tactic(auto)]
+
 ghost use Rattle.std.specs.Prelude.{◌≡◌, length};
 ghost use Rattle.site_rules.specs.Blocks.{length_ok};
 ghost use Rattle.site_rules.specs.Site.{site_answer};

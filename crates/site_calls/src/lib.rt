@@ -1,4 +1,6 @@
 // A case of the program site_cases: the site call and the listing on a site, and what is printed of them.
+#![tactic(auto)]
+
 ghost use Rattle.std.specs.Prelude.{◌≤◌, length};
 
 use libc::STDOUT_FILENO;

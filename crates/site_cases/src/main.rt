@@ -2,6 +2,8 @@
 // of the output (4 bytes each, lowest first) and the site. For each case it prints the listing, the answer as one number
 // in hexadecimal, and the sum of all output bytes, each times its place from 1, modulo 4,294,967,296. The crate
 // site_calls runs a case.
+#![tactic(auto)]
+
 use libc::STDIN_FILENO;
 use site_calls::run_case;
 

@@ -1,1 +1,3 @@
 // The rules of the site call: definitions and theorems, no function.
+
+#![tactic(auto)]

@@ -1,4 +1,6 @@
 // The fixed words of the listing, put into lent bytes. Each function gives the place after what it put.
+#![tactic(auto)]
+
 ghost use Rattle.std.specs.Prelude.{◌≡◌, ◌+◌, ◌≤◌, length};
 ghost use Rattle.words.specs.Bytes.{placed};
 ghost use Rattle.listing_rules.specs.Lines.{side_word, verdict_word, mark_of};

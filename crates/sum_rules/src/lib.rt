@@ -1,9 +1,11 @@
 // The answer of the list call. The rules are in specs/ and the promises in proofs/; there is no function.
+#![tactic(auto)]
+
 use decimal::Decimal;
 use outcome::Refusal;
 
 // The verdict of a side. A refused call has none at all.
-#[derive(Drop)]
+#[derive(Clone, Copy)]
 pub enum Verdict {
     Unset,
     Within,
@@ -13,7 +15,7 @@ pub enum Verdict {
 }
 
 // The reported sums of a side and its verdict.
-#[derive(Drop)]
+#[derive(Clone, Copy)]
 pub struct SideSums {
     pub lower: Decimal,
     pub upper: Decimal,
@@ -21,7 +23,7 @@ pub struct SideSums {
 }
 
 // The answer of the list call: accepted with the sums of both sides, or a refusal, its block and zeros.
-#[derive(Drop)]
+#[derive(Clone, Copy)]
 pub struct SumsAnswer {
     pub refusal: Refusal,
     pub block: u32,

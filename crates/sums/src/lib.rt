@@ -1,4 +1,6 @@
 // Sums of risk and hazard over a list of contaminants, and the verdict of each side.
+#![tactic(auto)]
+
 ghost use Rattle.std.specs.Prelude.{◌≡◌, [], ◌≤◌};
 ghost use Rattle.inputs.specs.Rules.{most_contaminants};
 ghost use Rattle.inputs.specs.Limits.{sum_width};
@@ -19,7 +21,7 @@ use terms::pathways::total;
 
 // The state of the list call between two records: the place of the next record and the id before it; a refusal and its
 // block, once there is one; the running sums.
-#[derive(Drop)]
+#[derive(Clone, Copy)]
 pub struct State {
     pub place: u32,
     pub previous: u32,

@@ -24,7 +24,7 @@ const YEARS_PER_HOUR: Number = Number {
 };
 
 // The terms of the three pathways of a side.
-#[derive(Drop)]
+#[derive(Clone, Copy)]
 pub struct PathwayTerms {
     pub first: Number,
     pub second: Number,
@@ -32,7 +32,7 @@ pub struct PathwayTerms {
 }
 
 // The terms of both sides.
-#[derive(Drop)]
+#[derive(Clone, Copy)]
 pub struct Terms {
     pub risk: PathwayTerms,
     pub hazard: PathwayTerms,

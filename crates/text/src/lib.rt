@@ -1,4 +1,6 @@
 // Numbers and decimals as text, put into lent bytes. Each function gives the place after what it put.
+#![tactic(auto)]
+
 ghost use Rattle.std.specs.Prelude.{◌≡◌, [], ◌∷◌, ◌+◌, ◌/◌, ◌%◌, ◌≤◌, length};
 ghost use Rattle.words.specs.Bytes.{placed};
 ghost use Rattle.text.specs.Numbers.{digit, number_text};

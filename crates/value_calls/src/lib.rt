@@ -1,5 +1,7 @@
 // The calls of the program call_cases that send values back: the single guideline, the sums of a list, the built-in scenarios and
 // the operations on decimals. Each reads the blocks that it takes, makes its call and prints what came back.
+#![tactic(auto)]
+
 use call_records::{read_contaminant, read_header, read_records, sums_of_first};
 use case_output::{print_four, print_next, print_pair};
 use decimal::Decimal;

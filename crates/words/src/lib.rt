@@ -1,4 +1,6 @@
 // Words of four bytes, lowest byte first, in byte slices.
+#![tactic(auto)]
+
 ghost use Rattle.std.specs.Prelude.{◌≡◌, ◌+◌, ◌*◌, ◌%◌, ◌≤◌, length, replicate};
 ghost use Rattle.words.specs.Words.{word_at, word_sum, zeros};
 ghost use Rattle.words.specs.Bytes.{le4, placed};

@@ -1,4 +1,6 @@
 // The calls of the program call_cases that write a block: each is lent some bytes, and what it left there is printed, weighed.
+#![tactic(auto)]
+
 ghost use Rattle.std.specs.Prelude.{◌≤◌, length};
 
 use call_records::{read_contaminant, read_header};

@@ -1,4 +1,6 @@
 // The writers of a header and of a contaminant: refused, or their block is put into the first 512 bytes of what is lent.
+#![tactic(auto)]
+
 ghost use Rattle.std.specs.Prelude.{◌≡◌, length};
 ghost use Rattle.outcome.specs.Outcome.{answer};
 ghost use Rattle.block_rules.specs.Answers.{contaminant_fit, header_refusal, header_answer, header_left, contaminant_refusal, contaminant_answer, contaminant_left};
