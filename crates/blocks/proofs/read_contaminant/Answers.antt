@@ -1,5 +1,5 @@
 -- `blocks::read_contaminant`: the tests in the order of the definition, each on the part that the definition names.
-use Rattle.std.proofs.Common.{◌≡◌, ◌≤◌, ◌+◌, ℕ, List, Bool, true, false, length, eqb, rules, sym, ◌∙◌}
+use Rattle.std.proofs.Common.{◌≡◌, ◌≤◌, ◌+◌, ℕ, List, Bool, true, false, length, eqb, arith, rules, sym, ◌∙◌}
 use mathlib.Core.Bool.{◌&&◌}
 use borrow.Author.Tests.{ne_eqb, le-leb, lt-leb}
 use Rattle.words.specs.Words.{part_of}
@@ -26,7 +26,7 @@ block c = part_of c.args.site.now c.args.at 512
 
 passed : (c : After-both) → Passed (block c) c.args.place 2
 passed c =
-    passed_here c.args.site.now c.args.at c.has_block.ensures c.if-not-has_block.false c.sound.ensures c.if-not-sound.false c.word.ensures c.if-word-ne2.false
+    passed_here c.args.site.now c.args.at c.has_block.ensures c.if-not-has_block.false c.sound.ensures c.if-not-sound.false c.word.ensures (omega arith)
 
 is : (c : After-both) → c.get_contaminant-r.result ≡ contaminant_at (block c) 8
 is c = contaminant_here c.args.site.now c.args.at c.get_contaminant-r.result c.get_contaminant-r.ensures
