@@ -244,19 +244,19 @@ pub data Factors (dir : Direction) : ℕ → ℕ → List Decimal → List Fract
   next : {j k v w : ℕ} {d : Decimal} {q : Fraction} {ds : List Decimal} {qs : List Fraction} → Approx dir j v d q → Factors dir k w ds qs → Factors dir (1 + j + k) (v + 1 + w) (d ∷ ds) (q ∷ qs)
 
 pub product_approx : (dir : Direction) {i l u z : ℕ} {d : Decimal} {q : Fraction} {ds : List Decimal} {qs : List Fraction} → u + z ≤ 980 → Approx dir i u d q → Factors dir l z ds qs → Approx dir (i + l) (u + z) (multiplied dir d ds) (times_all q qs)
-product_approx dir h f end = approx_most dir (omega arith) (omega arith) f
+product_approx dir {i = i} h f end = approx_most dir (omega arith) (omega arith) f
 product_approx dir {i} {l} {u} {z} h f (next {j} {k} {v} {w} g gs) =
     approx_most dir {j = 1 + (i + j) + k} {v = u + v + 1 + w} (omega arith) (omega arith)
-    (product_approx dir (omega arith) (approx_mul dir f g (omega arith)) gs)
+    (product_approx dir {i = 1 + (i + j)} (omega arith) (approx_mul dir f g (omega arith)) gs)
 
 -- ---- a list of summands, each within k roundings and a width of w
 pub data Summands (dir : Direction) (k w : ℕ) : List Decimal → List Fraction → Type 0 where
   end : Summands dir k w [] []
   next : {d : Decimal} {q : Fraction} {ds : List Decimal} {qs : List Fraction} → Fair dir k w d q → Summands dir k w ds qs → Summands dir k w (d ∷ ds) (q ∷ qs)
 
-pub sum_fair : (dir : Direction) {j k v w : ℕ} {a : Decimal} {p : Fraction} {bs : List Decimal} {ps : List Fraction} → k ≤ j → w ≤ v → v + length bs ≤ 980 → Fair dir j v a p → Summands dir k w bs ps → Fair dir (j + length bs) (v + length bs) (added dir a bs) (plus_all p ps)
+pub sum_fair : (dir : Direction) {k w j v : ℕ} {a : Decimal} {p : Fraction} {bs : List Decimal} {ps : List Fraction} → k ≤ j → w ≤ v → v + length bs ≤ 980 → Fair dir j v a p → Summands dir k w bs ps → Fair dir (j + length bs) (v + length bs) (added dir a bs) (plus_all p ps)
 sum_fair dir h l u f end = fair_most dir (omega arith) (omega arith) f
-sum_fair dir {j} {k} {v} {w} h l u f (next {d} {q} {ds} g gs) =
+sum_fair dir {k} {w} {j} {v} h l u f (next {d} {q} {ds} g gs) =
     fair_most dir {j = 1 + j + length ds} {v = v + 1 + length ds} (omega arith) (omega arith)
     (sum_fair dir {j = 1 + j} {v = v + 1} (omega arith) (omega arith) (omega arith) (fair_add dir (omega arith) f (fair_most dir h l g)) gs)
 
@@ -269,9 +269,9 @@ fair_skip dir {a} {b} {p} {q} {k} {w} h f (none e t m) = rw e (fair_most dir {j 
     kept (some g) = some (record { sized = g.sized; top = omega (arith, mul-pos g.top m); bottom = mul-pos g.bottom m; near = rw t (left_near dir k one (value_of a) p.top p.bottom q.bottom g.near) })
 fair_skip dir {a} {b} h f (some g) = rw (ne_eqb b.m 0 (omega (arith, g.sized.nine.least))) (fair_add dir h f (some g))
 
-pub skip_fair : (dir : Direction) {j k v w : ℕ} {a : Decimal} {p : Fraction} {bs : List Decimal} {ps : List Fraction} → k ≤ j → w ≤ v → v + length bs ≤ 980 → Fair dir j v a p → Summands dir k w bs ps → Fair dir (j + length bs) (v + length bs) (summed dir a bs) (plus_all p ps)
+pub skip_fair : (dir : Direction) {k w j v : ℕ} {a : Decimal} {p : Fraction} {bs : List Decimal} {ps : List Fraction} → k ≤ j → w ≤ v → v + length bs ≤ 980 → Fair dir j v a p → Summands dir k w bs ps → Fair dir (j + length bs) (v + length bs) (summed dir a bs) (plus_all p ps)
 skip_fair dir h l u f end = fair_most dir (omega arith) (omega arith) f
-skip_fair dir {j} {k} {v} {w} h l u f (next {d} {q} {ds} g gs) =
+skip_fair dir {k} {w} {j} {v} h l u f (next {d} {q} {ds} g gs) =
     fair_most dir {j = 1 + j + length ds} {v = v + 1 + length ds} (omega arith) (omega arith)
     (skip_fair dir {j = 1 + j} {v = v + 1} (omega arith) (omega arith) (omega arith) (fair_skip dir (omega arith) f (fair_most dir h l g)) gs)
 
