@@ -1,23 +1,32 @@
 // What the programs of stored cases print: numbers and decimals, a space before each, and the weighed bytes of an output.
 #![tactic(auto)]
 
-ghost use Rattle.std.specs.Prelude.{◌≤◌, length};
+ghost use Rattle.std.specs.Prelude.{◌≡◌, ◌≤◌, length, OnOk};
+ghost use Rattle.std.specs.Io.KnownBytes.{Appends};
+ghost use Rattle.std.specs.Fmt.{signed_decimal};
+ghost use Rattle.case_output.specs.Printed.{next_text, pair_text, four_text, weight};
 
 use decimal::Decimal;
 use std::io::{self, Write};
 
 // Prints a space and a number.
-pub fn print_next<W: Write>(output: &mut W, n: u32) -> io::Result<()> {
+pub fn print_next<W: Write>(output: &mut W, n: u32) -> io::Result<()>
+    ensures { OnOk result (Appends (W.contents output.old) (W.contents output.new) (next_text n)) }
+{
     write!(output, " {n}")
 }
 
 // Prints a whole number with its sign.
-fn print_signed<W: Write>(output: &mut W, e: i32) -> io::Result<()> {
+fn print_signed<W: Write>(output: &mut W, e: i32) -> io::Result<()>
+    ensures { OnOk result (Appends (W.contents output.old) (W.contents output.new) (signed_decimal e)) }
+{
     write!(output, "{e}")
 }
 
 // Prints a space, m, a space and e.
-pub fn print_pair<W: Write>(output: &mut W, d: Decimal) -> io::Result<()> {
+pub fn print_pair<W: Write>(output: &mut W, d: Decimal) -> io::Result<()>
+    ensures { OnOk result (Appends (W.contents output.old) (W.contents output.new) (pair_text d)) }
+{
     print_next(output, d.m)?;
     output.write_all(b" ")?;
     print_signed(output, d.e)
@@ -30,7 +39,9 @@ pub fn print_four<W: Write>(
     b: Decimal,
     c: Decimal,
     d: Decimal,
-) -> io::Result<()> {
+) -> io::Result<()>
+    ensures { OnOk result (Appends (W.contents output.old) (W.contents output.new) (four_text a b c d)) }
+{
     print_pair(output, a)?;
     print_pair(output, b)?;
     print_pair(output, c)?;
@@ -40,6 +51,7 @@ pub fn print_four<W: Write>(
 // The bytes of an output, each times its place from 1, added modulo 4,294,967,296.
 pub fn weigh(out: &[u8]) -> u32
     requires { length out.now ≤ 65536 }
+    ensures { result ≡ weight out.now }
 {
     let mut t: u32 = 0;
     for (i, byte) in out.iter().enumerate() {

@@ -1,0 +1,2 @@
+-- One byte more of an output's weight.
+pub mod Weights
