@@ -1,0 +1,17 @@
+-- `factors::numbers::number_of`: a valid decimal has few enough digits and a low enough exponent for its working form.
+use Rattle.std.proofs.Common.{ap, ◌∙◌, arith}
+use Rattle.rounding.specs.WorkingForm.{nine_of}
+use Rattle.rounding.specs.declared.Number.{Number}
+use Rattle.inputs.proofs.Tests.{valid_small}
+use Rattle.factors.proofs.StandsLaws.{number_stands}
+use Rattle.factors.proofs.numbers.number_of.Goals as goal
+
+pub working-requires : goal.working-requires
+working-requires c =
+    let k = valid_small c.args.d c.requires in
+    let m = ap (λ (r : Number). r.m) c.biased.ensures in
+    let x = ap (λ (r : Number). r.x) c.biased.ensures in
+    (omega (arith, k.digits, m), omega (arith, k.low, x))
+
+pub returns : goal.returns
+returns c = number_stands c.args.d c.working.result c.requires (c.working.ensures.0 ∙ ap nine_of c.biased.ensures)
