@@ -1,7 +1,8 @@
 // gvlist: reads a site on standard input and prints its listing.
 #![tactic(auto)]
 
-ghost use Rattle.std.specs.Prelude.{◌≡◌, ◌≤◌, length, take, IfOk};
+ghost use Rattle.std.specs.Prelude.{◌≡◌, ◌≤◌, ◌<◌, length, take, IfOk, OnOk};
+ghost use Rattle.std.specs.Io.KnownBytes.{Consumes, IsAtEnd, Appends};
 ghost use Rattle.listing_rules.specs.Listing.{listing_of};
 
 use std::io::{self, Read, Write};
@@ -9,7 +10,9 @@ use std::io::{self, Read, Write};
 // Reads until the buffer is full or the input ends, and answers how many bytes stand at the start of the buffer. A read
 // that fails is an error and not the end, so that no part of the input is taken for the whole.
 fn read_all<R: Read>(input: &mut R, buf: &mut [u8]) -> io::Result<usize>
-    ensures { IfOk result (λ n. n ≤ length buf.new) }
+    ensures bound { IfOk result (λ n. n ≤ length buf.new) }
+    ensures bytes { IfOk result (λ n. Consumes (R.remaining input.old) (R.remaining input.new) (take n buf.new)) }
+    ensures end { IfOk result (λ n. n < length buf.new → IsAtEnd (R.remaining input.new)) }
 {
     let mut done: usize = 0;
     while done < buf.len() {
@@ -35,7 +38,9 @@ fn list_text(site: &[u8], text: &mut [u8]) -> usize
 }
 
 // Lists the site and writes the text.
-fn write_listing<W: Write>(site: &[u8], output: &mut W) -> io::Result<()> {
+fn write_listing<W: Write>(site: &[u8], output: &mut W) -> io::Result<()>
+    ensures { OnOk result (Appends (W.contents output.old) (W.contents output.new) (listing_of site.now 65536)) }
+{
     let mut text = [0u8; 24576];
     let n = list_text(site, &mut text);
     output.write_all(&text[..n])
