@@ -37,7 +37,7 @@ class Server:
 
 
 def build():
-    subprocess.run(["rt", "staticlib", "gv"], cwd=HERE.parent, check=True, stdout=subprocess.DEVNULL, stderr=subprocess.DEVNULL)
+    subprocess.run(["bash", "tools/library.sh"], cwd=HERE.parent, check=True, stdout=subprocess.DEVNULL, stderr=subprocess.DEVNULL)
     subprocess.run(["sh", "build.sh"], cwd=HERE, check=True)
     subprocess.run(["build/harness", "fuzz", "20000", "1"], cwd=HERE, check=True)
 

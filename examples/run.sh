@@ -2,7 +2,7 @@
 # Builds the library, then builds and runs the C program and, where rustc is there, the Rust program.
 set -eu
 cd "$(dirname "$0")/.."
-rt staticlib gv > /dev/null 2>&1
+bash tools/library.sh > /dev/null 2>&1
 mkdir -p target/examples
 cc -O2 -Wall -Wextra -Iinclude -o target/examples/demo_c examples/demo.c target/staticlib/libgv.a
 target/examples/demo_c

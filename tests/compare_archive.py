@@ -22,7 +22,7 @@ def run(*words):
 
 def build():
     BUILD.mkdir(parents=True, exist_ok=True)
-    subprocess.run(["rt", "staticlib", "gv"], cwd=ROOT, check=True, stdout=subprocess.DEVNULL, stderr=subprocess.DEVNULL)
+    subprocess.run(["bash", "tools/library.sh"], cwd=ROOT, check=True, stdout=subprocess.DEVNULL, stderr=subprocess.DEVNULL)
     for program in FRAMES:
         run("cc", "-O2", "-g", "-Wall", "-Wextra", "-Iinclude", "-o", BUILD / program, f"tests/archive/{program}.c", "target/staticlib/libgv.a")
 

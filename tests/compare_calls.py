@@ -1,6 +1,6 @@
 """Runs the built program call_cases on random calls of every kind and compares every line with the second calculation.
 
-    rt check call_cases && python3 tests/compare_calls.py 5000 1
+    (cd crates/call_cases && rt run < stdin > /dev/null) && python3 tests/compare_calls.py 5000 1
 
 Demand 3 is checked exactly on each accepted guideline and list. Status 1 when anything differs.
 """
@@ -12,7 +12,7 @@ import sys
 
 from call_maker import random_call, random_contents
 
-PROGRAM = pathlib.Path(__file__).parent.parent / "target" / "bin" / "call_cases"
+PROGRAM = pathlib.Path(__file__).parent.parent / "crates" / "call_cases" / "out" / "call_cases"
 
 
 def main():

@@ -20,7 +20,7 @@ FORMS = ("I", "Q", "d")
 
 def arrays(source):
     """The numbers of each array that is written out in a source, comments and contracts left out."""
-    code = re.sub(r"//[^\n]*|⌜[^⌝]*⌝|ghost use[^;]*;", "", source)
+    code = re.sub(r"//[^\n]*|(?m:^\s*(?:requires|ensures)\b.*$)|ghost use[^;]*;", "", source)
     for inside in re.findall(r"\[([^\[\]]*,[^\[\]]*)\]", code):
         yield [int(digits.replace("_", "")) for digits in re.findall(r"(?<![\w.])(\d[\d_]*)(?:u\d+|usize)?(?![\w.])", inside)]
 

@@ -5,11 +5,10 @@ use mathlib.Core.Bool.{Bool, true, false, cond, false≢true}
 use Prim.Native.Nat.{ℕ, zero, suc, ◌-◌, ◌≤◌, ◌<◌, ◌%◌, ◌/◌}
 use native.Mathlib.Nat.{zero-add}
 use native.Mathlib.Omega.{arith}
-use lib.Dec.{T}
 use lib.IntN.{ℤ, pos, negsuc, ◌-ℤ◌, nat_abs}
-use lib.Signed.{le_z, non_neg}
+use lib.Signed.{le_z}
 use mir.Syntax.{w32}
-use mir.Val.{to_z, of_z, SFits, Fits}
+use mir.Val.{to_z, of_z, SFits}
 use mir.Facts.{to_z-of_z, to_z_pos}
 use borrow.Author.Tests.{ltb-true, leb-true, leb-false, lt-ltb, le-ltb}
 use Rattle.words.specs.Bytes.{le4}
@@ -32,7 +31,7 @@ signed_neg h l = simp (le-ltb h 32768 l)
 minus_is : (h : ℕ) → negsuc 0 -ℤ to_z w32 (65535 - h) ≡ negsuc (65535 - h)
 minus_is h = ap (λ (z : ℤ). negsuc 0 -ℤ z) (to_z_pos w32 {n = 65535 - h} (omega arith)) ∙ less_pos (65535 - h)
 
-pub minus_fits : (h : ℕ) → SFits w32 (negsuc 0 -ℤ to_z w32 (65535 - h))
+minus_fits : (h : ℕ) → SFits w32 (negsuc 0 -ℤ to_z w32 (65535 - h))
 minus_fits h = subst (λ (z : ℤ). SFits w32 z) (sym (minus_is h)) (record { sfits = omega arith })
 
 pub minus_value : (h : ℕ) → 32768 ≤ h → to_z w32 (of_z w32 (negsuc 0 -ℤ to_z w32 (65535 - h))) ≡ signed_of h
@@ -58,9 +57,9 @@ less_neg k =
     let e : suc k - 1 ≡ k = omega arith in
     ap (λ (b : Bool). cond b (negsuc (1 - suc (suc k))) (pos (suc k - 1))) (le-ltb (suc k) 1 (omega arith)) ∙ ap pos e
 
-not_below : (e : ℤ) → le_z (pos 0) e ≡ true → T (non_neg e) × (nat_abs e % 65536 ≡ code_of e)
+not_below : (e : ℤ) → le_z (pos 0) e ≡ true → nat_abs e % 65536 ≡ code_of e
 unfolding code_of
-not_below (pos n) h = (tt, refl)
+not_below (pos n) h = refl
 not_below (negsuc n) h = absurd (false≢true h)
 
 -- a number below zero, taken from -1
@@ -72,11 +71,8 @@ below (negsuc n) f h = (n, less_neg n, f.sfits, refl)
 
 -- what the code computes for e
 module _ (e : ℤ) (f : SFits w32 e) where
-  pub up_fits : le_z (pos 0) (to_z w32 (of_z w32 e)) ≡ true → Fits w32 (nat_abs e) → T (non_neg (to_z w32 (of_z w32 e))) × Fits w32 (nat_abs (to_z w32 (of_z w32 e)))
-  up_fits h n = rw (to_z-of_z f) ((not_below e (rw (to_z-of_z f) at h)).0, n)
-
   pub up_value : le_z (pos 0) (to_z w32 (of_z w32 e)) ≡ true → nat_abs (to_z w32 (of_z w32 e)) % 65536 ≡ code_of e
-  up_value h = rw (to_z-of_z f) (not_below e (rw (to_z-of_z f) at h)).1
+  up_value h = rw (to_z-of_z f) (not_below e (rw (to_z-of_z f) at h))
 
   module _ (h : le_z (pos 0) (to_z w32 (of_z w32 e)) ≡ false) where
     turned : (n : ℕ) × (negsuc 0 -ℤ e ≡ pos n) × (n < 2147483648) × (65535 - n % 65536 ≡ code_of e)
@@ -85,14 +81,11 @@ module _ (e : ℤ) (f : SFits w32 e) where
     less_is : negsuc 0 -ℤ to_z w32 (of_z w32 e) ≡ pos turned.0
     less_is = ap (λ (z : ℤ). negsuc 0 -ℤ z) (to_z-of_z f) ∙ turned.1
 
-    pub less_fits : SFits w32 (negsuc 0 -ℤ to_z w32 (of_z w32 e))
+    less_fits : SFits w32 (negsuc 0 -ℤ to_z w32 (of_z w32 e))
     less_fits = subst (λ (z : ℤ). SFits w32 z) (sym less_is) (record { sfits = turned.2 })
 
     read_is : to_z w32 (of_z w32 (negsuc 0 -ℤ to_z w32 (of_z w32 e))) ≡ pos turned.0
     read_is = to_z-of_z less_fits ∙ less_is
-
-    pub read_fits : T (non_neg (to_z w32 (of_z w32 (negsuc 0 -ℤ to_z w32 (of_z w32 e))))) × Fits w32 (nat_abs (to_z w32 (of_z w32 (negsuc 0 -ℤ to_z w32 (of_z w32 e)))))
-    read_fits = subst (λ (z : ℤ). T (non_neg z) × Fits w32 (nat_abs z)) (sym read_is) (tt, record { fits = omega (arith, turned.2) })
 
     pub down_value : 65535 - nat_abs (to_z w32 (of_z w32 (negsuc 0 -ℤ to_z w32 (of_z w32 e)))) % 65536 ≡ code_of e
     down_value = ap (λ (z : ℤ). 65535 - nat_abs z % 65536) read_is ∙ turned.3

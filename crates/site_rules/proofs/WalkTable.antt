@@ -99,6 +99,7 @@ numbered_append end n = n
 numbered_append (line e m) n = line e (numbered_append m n)
 
 pub first_numbered : {cs : List Condition} {c : Condition} → Numbered cs → FirstHolds cs c → number_of c.refusal ≡ 0 → ⊥
+first_numbered {c = c} end x = elim x [ ]
 first_numbered (line e n) (here h) = eqb-false _ 0 e
 first_numbered (line e n) (later h f) = first_numbered n f
 

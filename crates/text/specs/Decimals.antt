@@ -1,5 +1,5 @@
 -- Decimals as text (docs/SPECIFICATION.md, "Listing"): the first digit of m, a point, the other eight digits, E, a sign and the size of e + 8.
-use Rattle.std.specs.Prelude.{ℕ, zero, suc, ◌+◌, ◌-◌, ◌/◌, ◌%◌, List, [], ◌∷◌, ◌++◌, cond, eqb, ltb}
+use Rattle.std.specs.Prelude.{ℕ, ◌-◌, ◌/◌, ◌%◌, List, [], ◌∷◌, ◌++◌, cond, eqb, ltb}
 use Rattle.rounding.specs.Sizes.{bias}
 use Rattle.decimal.specs.declared.Decimal.{Decimal}
 use Rattle.decimal.specs.Exponent.{raised}

@@ -1,0 +1,136 @@
+-- What the readers answer once each test has gone one way or the other. Assumes nothing.
+use mathlib.Core.Path.{◌≡◌, sym, ap, ap₂, ◌∙◌}
+use mathlib.Core.List.{List}
+use mathlib.Core.Bool.{Bool, true, false, ◌&&◌, not}
+use Prim.Native.Nat.{ℕ, ◌+◌, ◌-◌}
+use native.Mathlib.Omega.{arith}
+use lib.ListN.{length, take, drop}
+use lib.Dec.{eqb, leb}
+use borrow.Author.Tests.{eq-eqb, not-false}
+use Rattle.outcome.specs.declared.Refusal.TheVariants.{Length, Check, Kind, Field, Count, Factor, Order}
+use Rattle.words.specs.Words.{word_at, part_of}
+use Rattle.words.proofs.Parts.{word_first}
+use Rattle.inputs.specs.declared.Contaminant.{Contaminant}
+use Rattle.inputs.specs.Inputs.{contaminant_of}
+use Rattle.inputs.specs.Rules.{scenario_fits, contaminant_fits, lacks_factor}
+use Rattle.block_rules.specs.declared.Header.{Header}
+use Rattle.block_rules.specs.declared.HeaderRead.TheVariants as H
+use Rattle.block_rules.specs.declared.ContaminantRead.TheVariants as C
+use Rattle.block_rules.specs.Rules.{count_ok}
+use Rattle.block_rules.specs.Reading.{scenario_at, header_at, header_unused, contaminant_at, contaminant_unused, sound_at, header_read, contaminant_read}
+use Rattle.blocks.proofs.Parts.{inner, inner_first, whole, contaminant_part, contaminant_unused_part, header_part, header_unused_part}
+
+-- the first three tests are passed
+pub record Passed (b : List ℕ) (place kind : ℕ) : Type 0 where
+  pub long : eqb (length b) 512 ≡ true
+  pub sound : sound_at b place ≡ true
+  pub first : eqb (word_at b 0) kind ≡ true
+
+-- what was found out by reading the site at `at` holds of its block there
+module _ (s : List ℕ) (at : ℕ) where
+  pub sound_here : (place : ℕ) (t : Bool) → t ≡ sound_at (take (at + 512 - at) (drop at s)) place → sound_at (part_of s at 512) place ≡ t
+  sound_here place t e = ap (λ (p : List ℕ). sound_at p place) (sym (whole s at)) ∙ sym e
+
+  pub kind_here : (kind w : ℕ) (t : Bool) → w ≡ word_at s at → eqb w kind ≡ t → eqb (word_at (part_of s at 512) 0) kind ≡ t
+  kind_here kind w t e h = ap (λ (n : ℕ). eqb n kind) (word_first s at 512 (omega arith) ∙ sym e) ∙ h
+
+  -- a whole block that is sound and of this kind
+  pub passed_here : {place kind w : ℕ} {t u : Bool} → t ≡ eqb (length (part_of s at 512)) 512 → not t ≡ false
+      → u ≡ sound_at (take (at + 512 - at) (drop at s)) place → not u ≡ false → w ≡ word_at s at → w ≡ kind → Passed (part_of s at 512) place kind
+  passed_here {place} {kind} {w} {t} {u} long n sound m word k = record {
+    long = sym long ∙ not-false t n;
+    sound = sound_here place u sound ∙ not-false u m;
+    first = kind_here kind w true word (eq-eqb w kind k);
+  }
+
+  pub contaminant_here : (r : Contaminant) → r ≡ contaminant_at (take (at + 508 - (at + 4)) (drop (at + 4) s)) 4 → r ≡ contaminant_at (part_of s at 512) 8
+  contaminant_here r e = e ∙ ap (λ (p : List ℕ). contaminant_at p 4) (inner s at) ∙ contaminant_part (part_of s at 512)
+
+  pub contaminant_fields_here : (r : Contaminant) (t x y : Bool) → t ≡ x && y → x ≡ contaminant_fits r → y ≡ contaminant_unused (take (at + 508 - (at + 4)) (drop (at + 4) s)) 4
+      → t ≡ contaminant_fits r && contaminant_unused (part_of s at 512) 8
+  contaminant_fields_here r t x y e f g =
+      e ∙ ap₂ (λ (u v : Bool). u && v) f (g ∙ ap (λ (p : List ℕ). contaminant_unused p 4) (inner s at) ∙ contaminant_unused_part (part_of s at 512))
+
+module _ (s : List ℕ) where
+  pub header_here : (h : Header) → h ≡ header_at (take 504 (drop 4 s)) 4 → h ≡ header_at (part_of s 0 512) 8
+  header_here h e = e ∙ ap (λ (p : List ℕ). header_at p 4) (inner_first s) ∙ header_part (part_of s 0 512)
+
+  pub header_fields_here : (h : Header) (t x y : Bool) → t ≡ x && y → x ≡ scenario_fits h.scenario h.medium → y ≡ header_unused (take 504 (drop 4 s)) 4
+      → t ≡ scenario_fits h.scenario h.medium && header_unused (part_of s 0 512) 8
+  header_fields_here h t x y e f g =
+      e ∙ ap₂ (λ (u v : Bool). u && v) f (g ∙ ap (λ (p : List ℕ). header_unused p 4) (inner_first s) ∙ header_unused_part (part_of s 0 512))
+
+-- ---- a contaminant
+module _ (b : List ℕ) (place previous : ℕ) where
+  pub contaminant_short : eqb (length b) 512 ≡ false → C.Refused Length ≡ contaminant_read b place previous
+  unfolding contaminant_read
+  contaminant_short n = simp n
+
+  pub contaminant_check : eqb (length b) 512 ≡ true → sound_at b place ≡ false → C.Refused Check ≡ contaminant_read b place previous
+  unfolding contaminant_read
+  contaminant_check n s = simp (n, s)
+
+  pub contaminant_kind : eqb (length b) 512 ≡ true → sound_at b place ≡ true → eqb (word_at b 0) 2 ≡ false → C.Refused Kind ≡ contaminant_read b place previous
+  unfolding contaminant_read
+  contaminant_kind n s k = simp (n, s, k)
+
+  module _ (p : Passed b place 2) (r : Contaminant) (is : r ≡ contaminant_at b 8) where
+    pub contaminant_field : contaminant_fits r && contaminant_unused b 8 ≡ false → C.Refused Field ≡ contaminant_read b place previous
+    unfolding contaminant_read
+    contaminant_field h = let f = rw is at h in simp (p.long, p.sound, p.first, f)
+
+    id_is : (t : Bool) → leb r.id previous ≡ t → leb (word_at b 12) previous ≡ t
+    unfolding contaminant_at contaminant_of
+    id_is t h = ap (λ (x : Contaminant). leb x.id previous) (sym is) ∙ h
+
+    pub contaminant_order : contaminant_fits r && contaminant_unused b 8 ≡ true → leb r.id previous ≡ true → C.Refused Order ≡ contaminant_read b place previous
+    unfolding contaminant_read
+    contaminant_order h i = let f = rw is at h in let o = id_is true i in simp (p.long, p.sound, p.first, f, o)
+
+    pub contaminant_found : contaminant_fits r && contaminant_unused b 8 ≡ true → leb r.id previous ≡ false → C.Found r ≡ contaminant_read b place previous
+    unfolding contaminant_read
+    contaminant_found h i = let f = rw is at h in let o = id_is false i in ap C.Found is ∙ simp (p.long, p.sound, p.first, f, o)
+
+-- ---- a header
+module _ (b : List ℕ) (blocks : ℕ) where
+  pub header_short : eqb (length b) 512 ≡ false → H.Refused Length ≡ header_read b blocks
+  unfolding header_read
+  header_short n = simp n
+
+  pub header_check : eqb (length b) 512 ≡ true → sound_at b 0 ≡ false → H.Refused Check ≡ header_read b blocks
+  unfolding header_read
+  header_check n s = simp (n, s)
+
+  pub header_kind : eqb (length b) 512 ≡ true → sound_at b 0 ≡ true → eqb (word_at b 0) 1 ≡ false → H.Refused Kind ≡ header_read b blocks
+  unfolding header_read
+  header_kind n s k = simp (n, s, k)
+
+  module _ (p : Passed b 0 1) (h : Header) (is : h ≡ header_at b 8) where
+    fields_are : (t : Bool) → scenario_fits h.scenario h.medium && header_unused b 8 ≡ t → scenario_fits (scenario_at b 16) (word_at b 8) && header_unused b 8 ≡ t
+    unfolding header_at
+    fields_are t e = ap (λ (x : Header). scenario_fits x.scenario x.medium && header_unused b 8) (sym is) ∙ e
+
+    pub header_field : scenario_fits h.scenario h.medium && header_unused b 8 ≡ false → H.Refused Field ≡ header_read b blocks
+    unfolding header_read
+    header_field v = let f = fields_are false v in simp (p.long, p.sound, p.first, f)
+
+    count_is : (t : Bool) → count_ok h.count blocks ≡ t → count_ok (word_at b 12) blocks ≡ t
+    unfolding header_at
+    count_is t e = ap (λ (x : Header). count_ok x.count blocks) (sym is) ∙ e
+
+    factors_are : (t : Bool) → lacks_factor h.scenario ≡ t → lacks_factor (scenario_at b 16) ≡ t
+    unfolding header_at
+    factors_are t e = ap (λ (x : Header). lacks_factor x.scenario) (sym is) ∙ e
+
+    module _ (v : scenario_fits h.scenario h.medium && header_unused b 8 ≡ true) where
+      pub header_count : count_ok h.count blocks ≡ false → H.Refused Count ≡ header_read b blocks
+      unfolding header_read
+      header_count n = let f = fields_are true v in let k = count_is false n in simp (p.long, p.sound, p.first, f, k)
+
+      pub header_factor : count_ok h.count blocks ≡ true → lacks_factor h.scenario ≡ true → H.Refused Factor ≡ header_read b blocks
+      unfolding header_read
+      header_factor n m = let f = fields_are true v in let k = count_is true n in let x = factors_are true m in simp (p.long, p.sound, p.first, f, k, x)
+
+      pub header_found : count_ok h.count blocks ≡ true → lacks_factor h.scenario ≡ false → H.Found h ≡ header_read b blocks
+      unfolding header_read
+      header_found n m = let f = fields_are true v in let k = count_is true n in let x = factors_are false m in ap H.Found is ∙ simp (p.long, p.sound, p.first, f, k, x)

@@ -1,0 +1,29 @@
+-- `terms::pathways::air`: what the code adds up is B.
+use Rattle.std.proofs.Common.{◌+◌, sym, ap, subst, ◌∙◌}
+use lib.Dec.{lit≤}
+use Rattle.rounding.specs.declared.Number.{Number}
+use Rattle.rounding.specs.Operations.{sum_of}
+use Rattle.inputs.specs.Limits.{two_width}
+use Rattle.formulas.specs.Formula.{B, One, VF}
+use Rattle.formulas.specs.Term.{look}
+use Rattle.factors.specs.Stands.{Stands}
+use Rattle.terms.specs.Side.{number_values}
+use Rattle.factors.proofs.StandsLaws.{stands_div, stands_operand}
+use Rattle.terms.proofs.NumberValues.{input, range, air_number, air_stands}
+use Rattle.terms.proofs.pathways.air.Goals as goal
+
+pub div-requires : goal.div-requires
+div-requires c = let r = range c.requires in (r One, r VF)
+
+pub add-requires : goal.add-requires
+add-requires c =
+    let r = input c.requires in
+    let quotient = stands_div c.args.dir (r One) (r VF) (lit≤ tt) c.div.ensures.0 in
+    ((stands_operand (lit≤ tt) quotient).range, (stands_operand (lit≤ tt) c.requires.prepared.inverse_pef).range)
+
+pub returns : goal.returns
+unfolding air_number
+returns c =
+    let a = c.args in
+    let e = c.add.ensures.0 ∙ ap (λ (q : Number). sum_of a.dir q a.p.inverse_pef) c.div.ensures.0 in
+    record { stands = subst (λ (b : Number). Stands (two_width + 1) b (look (number_values a.dir a.p.factors a.t) B)) (sym e) (air_stands c.requires) }

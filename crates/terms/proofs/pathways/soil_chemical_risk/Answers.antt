@@ -1,0 +1,75 @@
+-- `terms::pathways::soil_chemical_risk`: each term is that of its formula in the table.
+use Rattle.std.proofs.Common.{◌≡◌, [], ◌∷◌}
+use lib.Dec.{lit≤}
+use Rattle.rounding.specs.declared.Direction.{Direction}
+use Rattle.rounding.specs.declared.Number.{Number}
+use Rattle.rounding.specs.Operations.{product_of}
+use Rattle.inputs.specs.Limits.{three_width}
+use Rattle.formulas.specs.Side.{Risk}
+use Rattle.formulas.specs.Formula.{B, Millionth, EF, ED, IR, IRA, SFo, SFi, table, pathways_of, derived}
+use Rattle.factors.specs.declared.numbers.ContaminantNumbers.{ContaminantNumbers}
+use Rattle.factors.specs.declared.prepared.Prepared.{Prepared}
+use Rattle.factors.specs.Stands.{Stands}
+use Rattle.terms.specs.Side.{number_values, Ready, Air}
+use Rattle.factors.proofs.StandsLaws.{zero_stands, stands_div, stands_middle, stands_mul3, stands_operand}
+use Rattle.factors.proofs.Constants.{num}
+use Rattle.terms.proofs.NumberValues.{named, input, middle, side_term}
+use Rattle.terms.proofs.pathways.soil_chemical_risk.Goals as goal
+
+-- ---- what the code multiplies
+module _ {dir : Direction} {p : Prepared} {t : ContaminantNumbers} (ready : Ready dir p t) where
+  oral3 : {a : Number} → a ≡ product_of dir (product_of dir t.toxicity.sfo p.factors.contact.ir) (num 100000000 2986) → Stands three_width a (named dir p t (SFo ∷ IR ∷ Millionth ∷ []))
+  oral3 e = stands_mul3 dir (input ready SFo) (input ready IR) (input ready Millionth) (lit≤ tt) e
+
+  oral : {a b : Number} → a ≡ product_of dir (product_of dir t.toxicity.sfo p.factors.contact.ir) (num 100000000 2986) →
+      b ≡ product_of dir (product_of dir a p.factors.exposure.ef) p.factors.exposure.ed → Stands 144 b (named dir p t (SFo ∷ IR ∷ Millionth ∷ EF ∷ ED ∷ []))
+  oral e g = stands_mul3 dir (oral3 e) (input ready EF) (input ready ED) (lit≤ tt) g
+
+  inhaled3 : {a b : Number} → Air dir p t b → a ≡ product_of dir (product_of dir t.toxicity.sfi p.factors.contact.ira) b → Stands 116 a (named dir p t (SFi ∷ IRA ∷ B ∷ []))
+  inhaled3 air e = stands_mul3 dir (input ready SFi) (input ready IRA) air.stands (lit≤ tt) e
+
+  inhaled : {a b d : Number} → Air dir p t b → a ≡ product_of dir (product_of dir t.toxicity.sfi p.factors.contact.ira) b →
+      d ≡ product_of dir (product_of dir a p.factors.exposure.ef) p.factors.exposure.ed → Stands 174 d (named dir p t (SFi ∷ IRA ∷ B ∷ EF ∷ ED ∷ []))
+  inhaled air e g = stands_mul3 dir (inhaled3 air e) (input ready EF) (input ready ED) (lit≤ tt) g
+
+-- ---- what it may multiply and divide
+pub product3-requires : goal.product3-requires
+product3-requires c = let r = middle c.requires.0 in (r SFo, (r IR, r Millionth))
+
+pub product3-swallowed-requires : goal.product3-swallowed-requires
+product3-swallowed-requires c =
+    let r = middle c.requires.0 in
+    (stands_middle (lit≤ tt) (oral3 c.requires.0 c.product3.ensures.0), (r EF, r ED))
+
+pub product3-requires-2 : goal.product3-requires-2
+product3-requires-2 c =
+    let r = middle c.requires.0 in
+    (r SFi, (r IRA, stands_middle (lit≤ tt) c.requires.1.stands))
+
+pub product3-inhaled-requires : goal.product3-inhaled-requires
+product3-inhaled-requires c =
+    let r = middle c.requires.0 in
+    (stands_middle (lit≤ tt) (inhaled3 c.requires.0 c.requires.1 c.product3-2.ensures.0), (r EF, r ED))
+
+pub div-requires : goal.div-requires
+div-requires c =
+    let dividend = oral c.requires.0 c.product3.ensures.0 c.product3-swallowed.ensures.0 in
+    ((stands_operand (lit≤ tt) dividend).range, (stands_operand (lit≤ tt) c.requires.0.prepared.lifetime).range)
+
+pub div-requires-2 : goal.div-requires-2
+div-requires-2 c =
+    let dividend = inhaled c.requires.0 c.requires.1 c.product3-2.ensures.0 c.product3-inhaled.ensures.0 in
+    ((stands_operand (lit≤ tt) dividend).range, (stands_operand (lit≤ tt) c.requires.0.prepared.lifetime).range)
+
+pub returns : goal.returns
+unfolding number_values derived pathways_of table
+returns c =
+    let ready = c.requires.0 in
+    let dir = c.args.dir in
+    let swallowed = oral ready c.product3.ensures.0 c.product3-swallowed.ensures.0 in
+    let breathed = inhaled ready c.requires.1 c.product3-2.ensures.0 c.product3-inhaled.ensures.0 in
+    record {
+      first = side_term ready 1 1 Risk 0 (lit≤ tt) (stands_div dir swallowed ready.prepared.lifetime (lit≤ tt) c.div.ensures.0);
+      second = side_term ready 1 1 Risk 1 (lit≤ tt) (stands_div dir breathed ready.prepared.lifetime (lit≤ tt) c.div-2.ensures.0);
+      third = side_term ready 1 1 Risk 2 (lit≤ tt) zero_stands;
+    }
