@@ -3,6 +3,7 @@ use Rattle.std.proofs.Common.{◌≡◌, ℕ, ◌+◌, ◌<◌, List, [], ◌∷
 use Rattle.std.proofs.Math.Seq.{drop-cons}
 use lib.ListN.{drop_of_length-le}
 use Rattle.inputs.specs.declared.Contaminant.{Contaminant}
+use Rattle.inputs.specs.Inputs.{toxicity_of, transfer_of, contaminant_of}
 use Rattle.inputs.specs.BuiltIn.{no_contaminant}
 use Rattle.shares.specs.declared.Plan.{Plan}
 use Rattle.sum_rules.specs.declared.SumsAnswer.{SumsAnswer}
@@ -34,7 +35,7 @@ loop-i-init c =
     }
 
 pub loop-i-preserved : goal.loop-i-preserved
-unfolding no_contaminant
+unfolding contaminant_of toxicity_of transfer_of
 loop-i-preserved c =
     let ys = c.args.list.now in
     let l = c.loop-i.invariant in
