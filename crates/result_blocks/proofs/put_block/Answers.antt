@@ -9,25 +9,6 @@ use Rattle.sums.specs.State.{NextRuns}
 use Rattle.result_blocks.proofs.OneBlock.{read_is, read_ok, block_is, block_wide, risk_printable, hazard_printable, guideline_is, shares_fit, one_more}
 use Rattle.result_blocks.proofs.put_block.Goals as goal
 
-pub overflow_mul-at : goal.overflow_mul-at
-overflow_mul-at c = omega (arith, c.requires.0.most)
-
-pub overflow_add-from : goal.overflow_add-from
-overflow_add-from c = omega (arith, c.requires.0.most)
-
-pub overflow_add-to : goal.overflow_add-to
-overflow_add-to c = omega (arith, c.requires.0.most)
-
-pub slice_bounds-get_contaminant-end : goal.slice_bounds-get_contaminant-end
-slice_bounds-get_contaminant-end c = omega (arith, c.requires.0.long)
-
-pub get_contaminant-r-requires : goal.get_contaminant-r-requires
-get_contaminant-r-requires c =
-    let at = 512 * c.args.place in
-    let rest = drop (at + 4) c.args.site.now in
-    let n : length (take (at + 508 - (at + 4)) rest) ≡ at + 508 - (at + 4) = length-take-le _ rest (simp length-drop (omega (arith, c.requires.0.long))) in
-    omega (arith, n)
-
 pub work-w-requires : goal.work-w-requires
 work-w-requires c =
     let p = c.requires.0 in

@@ -14,15 +14,6 @@ loop-k-init c =
       written = none_written a.p.scenario a.p.medium a.site.now a.out.now (omega (arith, c.requires.1));
     }
 
-pub overflow_add-place : goal.overflow_add-place
-overflow_add-place c = omega (arith, c.loop-k-test.true, c.requires.0.most)
-
-pub overflow_mul-a : goal.overflow_mul-a
-overflow_mul-a c = omega (arith, c.loop-k-test.true, c.requires.0.most)
-
-pub overflow_add-b : goal.overflow_add-b
-overflow_add-b c = omega (arith, c.loop-k-test.true, c.requires.0.most)
-
 pub slice_bounds-put_block-end : goal.slice_bounds-put_block-end
 slice_bounds-put_block-end c =
     let a = c.args in
@@ -52,9 +43,6 @@ put_block-x-requires c =
       },
       omega (arith, q),
     )
-
-pub overflow_add-k : goal.overflow_add-k
-overflow_add-k c = omega (arith, c.loop-k-test.true, c.requires.0.most)
 
 pub loop-k-preserved : goal.loop-k-preserved
 loop-k-preserved c =
