@@ -4,7 +4,6 @@ use mathlib.Core.Bool.{false≢true}
 use Rattle.rounding.specs.declared.Direction.TheVariants.{Up}
 use Rattle.inputs.specs.declared.Scenario.{Scenario}
 use Rattle.inputs.specs.declared.Contaminant.{Contaminant}
-use Rattle.inputs.proofs.Tests.{contaminant_parts}
 use Rattle.factors.specs.declared.numbers.Factors.{Factors}
 use Rattle.factors.specs.declared.numbers.ContaminantNumbers.{ContaminantNumbers}
 use Rattle.factors.specs.declared.prepared.Prepared.{Prepared}
@@ -68,6 +67,6 @@ returns-then-both c =
 pub returns : goal.returns
 returns c =
     let good = in_range_lem
-        (columns_filled c.requires c.scenario_numbers-f.ensures c.prepare-p.ensures c.contaminant_numbers-t.ensures c.terms_of-side.ensures
-        c.columns_of-columns.ensures) in
+    (columns_filled c.requires c.scenario_numbers-f.ensures c.prepare-p.ensures c.contaminant_numbers-t.ensures c.terms_of-side.ensures
+    c.columns_of-columns.ensures) in
     absurd (false≢true (sym c.if-both.false ∙ c.both.ensures ∙ rw (c.column_ranged.ensures, c.column_ranged-2.ensures) good))

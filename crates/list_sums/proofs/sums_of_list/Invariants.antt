@@ -8,7 +8,7 @@ abbrev pub invariant-loop-i : goal.invariant-loop-i
 invariant-loop-i l = record {
   good : Good l.p l.t;
   room : Room l.t (drop l.i l.list);
-  left : answer_from l.p l.t (drop l.i l.list) ≡ sums_of l.s l.medium l.list;
+  left : answer_from l.p l.t (drop l.i l.list) ≡ sums_of l.fn.s l.medium l.list;
 }
 
 abbrev pub decreases-loop-i : goal.decreases-loop-i

@@ -25,5 +25,5 @@ returns c =
     let own = c.record_refusal-own in
     let zero = eqb-true (number_of own.result) 0 (sym c.accepted.ensures ∙ c.if-not-accepted.false) in
     let sums =
-        next_runs (workable p) c.work-w.ensures c.total-risk.ensures.0 c.total-hazard.ensures.0 p.good.place p.good.runs c.add_shares.ensures in
+    next_runs (workable p) c.work-w.ensures c.total-risk.ensures.0 c.total-hazard.ensures.0 p.good.place p.good.runs c.add_shares.ensures in
     moved_steps p sums (sym (ap number_of own.ensures) ∙ zero) c.moved.ensures
