@@ -1,6 +1,5 @@
 -- `result_blocks::put_block`: what is read is the record of the block, and what is written and added is of that record.
-use Rattle.std.proofs.Common.{◌≡◌, ℕ, ◌+◌, ◌-◌, ◌*◌, List, length, take, drop, ap, ap₂, subst, ◌∙◌, arith, length-drop}
-use lib.Seq.{length-take-le}
+use Rattle.std.proofs.Common.{◌≡◌, ℕ, List, ap, ap₂, subst, ◌∙◌, arith}
 use Rattle.inputs.specs.declared.Contaminant.{Contaminant}
 use Rattle.guideline_rules.specs.declared.SideGuidelines.{SideGuidelines}
 use Rattle.words.specs.Bytes.{over}
