@@ -4,43 +4,52 @@
 // too. Each case prints a line: the number of its call, and what came back. The crates value_calls and writer_calls run the calls.
 #![tactic(auto)]
 
-use libc::{STDIN_FILENO, STDOUT_FILENO};
+use case_input::read_full;
+use std::io::{self, Read, Write};
 use value_calls::{run_built_in, run_decimals, run_guideline, run_list};
 use writer_calls::run_writer;
 
 // Runs a call and prints its line. The count is that of a list's records, or the place that is written.
-fn run_call(call: u32, argument: u32, count: u32) {
-    io::print_decimal(STDOUT_FILENO, call as u64);
+fn run_call<R: Read, W: Write>(
+    input: &mut R,
+    output: &mut W,
+    call: u32,
+    argument: u32,
+    count: u32,
+) -> io::Result<()> {
+    write!(output, "{call}")?;
     match call {
-        1 => run_guideline(),
-        2 => run_list(count as usize),
-        3 => run_writer(call, argument as usize, count),
-        4 => run_writer(call, argument as usize, count),
-        5 => run_built_in(argument),
-        6 => run_decimals(argument),
+        1 => run_guideline(input, output)?,
+        2 => run_list(input, output, count as usize)?,
+        3 | 4 => run_writer(input, output, call, argument as usize, count)?,
+        5 => run_built_in(output, argument)?,
+        6 => run_decimals(input, output, argument)?,
         _ => {}
     }
-    io::write_all(STDOUT_FILENO, b"\n");
+    output.write_all(b"\n")
 }
 
 // Reads a case and runs it. False when the input has no whole case left.
-fn next_case() -> bool {
+fn next_case<R: Read, W: Write>(input: &mut R, output: &mut W) -> io::Result<bool> {
     let mut head = [0u8; 12];
-    if io::read_full(STDIN_FILENO, &mut head) < 12 {
-        return false;
+    if read_full(input, &mut head)? < 12 {
+        return Ok(false);
     }
-    let words = &head[..];
-    let call = words::word(words, 0);
-    let argument = words::word(words, 4);
-    let count = words::word(words, 8);
-    run_call(call, argument, count);
-    true
+    let call = words::word(&head, 0);
+    let argument = words::word(&head, 4);
+    let count = words::word(&head, 8);
+    run_call(input, output, call, argument, count)?;
+    Ok(true)
 }
 
-// A proved loop has to end, and nothing says that the input does: so the turns are counted down.
-fn main() {
-    let mut turns = u64::MAX;
-    while turns > 0 && next_case() {
-        turns -= 1;
+// A proved loop has to end, and nothing says that the input does: so the turns are counted.
+fn main(rt: HostRuntime) -> io::Result<()> {
+    let mut input = rt.stdin();
+    let mut output = rt.stdout();
+    for _ in 0..u64::MAX {
+        if !next_case(&mut input, &mut output)? {
+            break;
+        }
     }
+    Ok(())
 }

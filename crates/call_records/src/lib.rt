@@ -6,22 +6,23 @@ ghost use Rattle.std.specs.Prelude.{◌≡◌, ◌≤◌, take};
 ghost use Rattle.sum_rules.specs.ListCall.{sums_of};
 
 use block_rules::Header;
+use case_input::read_full;
 use inputs::{Contaminant, Scenario};
-use libc::STDIN_FILENO;
+use std::io::{self, Read};
 use sum_rules::SumsAnswer;
 
-// The header in the next block, unchecked.
-pub fn read_header() -> Header {
+// The header in the next block, unchecked. What the input does not give of the block is of zeros.
+pub fn read_header<R: Read>(input: &mut R) -> io::Result<Header> {
     let mut block = [0u8; 128];
-    io::read_full(STDIN_FILENO, &mut block);
-    blocks::get_header(&block, 8)
+    read_full(input, &mut block)?;
+    Ok(blocks::get_header(&block, 8))
 }
 
-// The contaminant in the next block, unchecked.
-pub fn read_contaminant() -> Contaminant {
+// The contaminant in the next block, unchecked. What the input does not give of the block is of zeros.
+pub fn read_contaminant<R: Read>(input: &mut R) -> io::Result<Contaminant> {
     let mut block = [0u8; 128];
-    io::read_full(STDIN_FILENO, &mut block);
-    blocks::get_contaminant(&block, 8)
+    read_full(input, &mut block)?;
+    Ok(blocks::get_contaminant(&block, 8))
 }
 
 // The records of a list.
@@ -31,16 +32,14 @@ pub struct Records {
 }
 
 // The contaminants in the next n blocks; those after them are of zeros.
-pub fn read_records(n: usize) -> Records
+pub fn read_records<R: Read>(input: &mut R, n: usize) -> io::Result<Records>
     requires { n ≤ 121 }
 {
     let mut list = [Contaminant::NONE; 121];
-    let mut i: usize = 0;
-    while i < n {
-        list[i] = read_contaminant();
-        i += 1;
+    for i in 0..n {
+        list[i] = read_contaminant(input)?;
     }
-    Records { list }
+    Ok(Records { list })
 }
 
 // Lends the first n of the records to the list call.

@@ -1,1 +1,2 @@
-pub mod Signs
+-- One byte more of an output's weight.
+pub mod Weights

@@ -1,51 +1,61 @@
 // What the programs of stored cases print: numbers and decimals, a space before each, and the weighed bytes of an output.
 #![tactic(auto)]
 
-ghost use Rattle.std.specs.Prelude.{◌≤◌, length};
+ghost use Rattle.std.specs.Prelude.{◌≡◌, ◌≤◌, length, OnOk};
+ghost use Rattle.std.specs.Io.KnownBytes.{Appends};
+ghost use Rattle.std.specs.Fmt.{signed_decimal};
+ghost use Rattle.case_output.specs.Printed.{next_text, pair_text, four_text, weight};
 
 use decimal::Decimal;
-use libc::STDOUT_FILENO;
+use std::io::{self, Write};
 
 // Prints a space and a number.
-pub fn print_next(n: u32) {
-    io::write_all(STDOUT_FILENO, b" ");
-    io::print_decimal(STDOUT_FILENO, n as u64);
+pub fn print_next<W: Write>(output: &mut W, n: u32) -> io::Result<()>
+    ensures { OnOk result (Appends (W.contents output.old) (W.contents output.new) (next_text n)) }
+{
+    write!(output, " {n}")
 }
 
 // Prints a whole number with its sign.
-fn print_signed(e: i32) {
-    if e < 0 {
-        io::write_all(STDOUT_FILENO, b"-");
-        io::print_decimal(STDOUT_FILENO, (-1 - e) as u64 + 1);
-    } else {
-        io::print_decimal(STDOUT_FILENO, e as u64);
-    }
+fn print_signed<W: Write>(output: &mut W, e: i32) -> io::Result<()>
+    ensures { OnOk result (Appends (W.contents output.old) (W.contents output.new) (signed_decimal e)) }
+{
+    write!(output, "{e}")
 }
 
 // Prints a space, m, a space and e.
-pub fn print_pair(d: Decimal) {
-    print_next(d.m);
-    io::write_all(STDOUT_FILENO, b" ");
-    print_signed(d.e);
+pub fn print_pair<W: Write>(output: &mut W, d: Decimal) -> io::Result<()>
+    ensures { OnOk result (Appends (W.contents output.old) (W.contents output.new) (pair_text d)) }
+{
+    print_next(output, d.m)?;
+    output.write_all(b" ")?;
+    print_signed(output, d.e)
 }
 
 // Prints four decimals.
-pub fn print_four(a: Decimal, b: Decimal, c: Decimal, d: Decimal) {
-    print_pair(a);
-    print_pair(b);
-    print_pair(c);
-    print_pair(d);
+pub fn print_four<W: Write>(
+    output: &mut W,
+    a: Decimal,
+    b: Decimal,
+    c: Decimal,
+    d: Decimal,
+) -> io::Result<()>
+    ensures { OnOk result (Appends (W.contents output.old) (W.contents output.new) (four_text a b c d)) }
+{
+    print_pair(output, a)?;
+    print_pair(output, b)?;
+    print_pair(output, c)?;
+    print_pair(output, d)
 }
 
 // The bytes of an output, each times its place from 1, added modulo 4,294,967,296.
 pub fn weigh(out: &[u8]) -> u32
     requires { length out.now ≤ 65536 }
+    ensures { result ≡ weight out.now }
 {
     let mut t: u32 = 0;
-    let mut i: usize = 0;
-    while i < out.len() {
-        t = std::num::wrapping_add_u32(t, (i as u32 + 1) * (out[i] as u32));
-        i += 1;
+    for (i, byte) in out.iter().enumerate() {
+        t = t.wrapping_add((i as u32 + 1) * (*byte as u32));
     }
     t
 }

@@ -1,76 +1,67 @@
 // gvlist: reads a site on standard input and prints its listing.
 #![tactic(auto)]
 
-ghost use Rattle.std.specs.Prelude.{◌≡◌, ◌≤◌, length, take};
-ghost use Rattle.io.specs.Counts.{IsPrefixLen};
+ghost use Rattle.std.specs.Prelude.{◌≡◌, ◌≤◌, ◌<◌, length, take, IfOk, OnOk};
+ghost use Rattle.std.specs.Io.KnownBytes.{Consumes, IsAtEnd, Appends};
 ghost use Rattle.listing_rules.specs.Listing.{listing_of};
 
-use libc::{STDERR_FILENO, STDIN_FILENO, STDOUT_FILENO};
+use std::io::{self, Read, Write};
 
-// What was read: how many bytes stand at the start of the buffer, and whether every read went well.
-#[derive(Clone, Copy)]
-struct Input {
-    length: usize,
-    good: bool,
-}
-
-// Reads until the buffer is full or the input ends. A read that fails is told from the end, so that no part of the
-// input is taken for the whole.
-fn read_all(buf: &mut [u8]) -> Input
-    ensures { result.length ≤ length buf.new }
+// Reads until the buffer is full or the input ends, and answers how many bytes stand at the start of the buffer. A read
+// that fails is an error and not the end, so that no part of the input is taken for the whole.
+fn read_all<R: Read>(input: &mut R, buf: &mut [u8]) -> io::Result<usize>
+    ensures bound { IfOk result (λ n. n ≤ length buf.new) }
+    ensures bytes { IfOk result (λ n. Consumes (R.remaining input.old) (R.remaining input.new) (take n buf.new)) }
+    ensures end { IfOk result (λ n. n < length buf.new → IsAtEnd (R.remaining input.new)) }
 {
     let mut done: usize = 0;
     while done < buf.len() {
-        let got = libc::read(STDIN_FILENO, &mut buf[done..]);
-        if got < 0 {
-            return Input {
-                length: done,
-                good: false,
-            };
-        }
-        let n = io::count(got, &buf[done..]);
+        let n = input.read(&mut buf[done..])?;
         if n == 0 {
             break;
         }
         done += n;
     }
-    Input {
-        length: done,
-        good: true,
-    }
+    Ok(done)
 }
 
 // Puts the listing of a site, all of it, at the start of a text that has room for every listing.
 fn list_text(site: &[u8], text: &mut [u8]) -> usize
     requires { 24576 ≤ length text.old }
-    ensures prefix_len { IsPrefixLen result text.new }
+    ensures prefix_len { result ≤ length text.new }
+    ensures whole_prefix { result ≡ length (take result text.new) }
     ensures text_after { take result text.new ≡ listing_of site.now 65536 }
 {
-    let mut results = io::large_buffer();
+    let mut results = [0u8; 65536];
     let listed = listing::list_site(site, &mut results, text);
     listed.length
 }
 
 // Lists the site and writes the text.
-fn write_listing(site: &[u8]) {
+fn write_listing<W: Write>(site: &[u8], output: &mut W) -> io::Result<()>
+    ensures { OnOk result (Appends (W.contents output.old) (W.contents output.new) (listing_of site.now 65536)) }
+{
     let mut text = [0u8; 24576];
     let n = list_text(site, &mut text);
-    if !io::write_all(STDOUT_FILENO, &text[..n]) {
-        io::write_all(
-            STDERR_FILENO,
-            b"gvlist: writing to standard output failed\n",
-        );
+    output.write_all(&text[..n])
+}
+
+// Says on standard error what went wrong, if it did, and hands the answer on. Where that message cannot be written
+// either, the first error is the one to tell.
+fn explained<T>(rt: &impl Eprint, what: &str, answer: io::Result<T>) -> io::Result<T>
+    ensures { result ≡ answer }
+{
+    if answer.is_err() {
+        let _ = eprintln!(rt; "gvlist: {what} failed");
     }
+    answer
 }
 
 // The buffer holds more than the longest site, 61,952 bytes: an input that is longer is refused, and not cut.
-fn main() {
-    let mut buf = io::large_buffer();
-    let input = read_all(&mut buf);
-    let n = input.length;
-    if !input.good {
-        io::write_all(STDERR_FILENO, b"gvlist: reading standard input failed\n");
-        return;
-    }
-    write_listing(&buf[..n]);
+fn main(rt: HostRuntime) -> io::Result<()> {
+    let mut buf = [0u8; 65536];
+    let read = read_all(&mut rt.stdin(), &mut buf);
+    let n = explained(&rt, "reading standard input", read)?;
+    let written = write_listing(&buf[..n], &mut rt.stdout());
+    explained(&rt, "writing to standard output", written)
 }

@@ -1,43 +1,45 @@
 // A case of the program site_cases: the site call and the listing on a site, and what is printed of them.
 #![tactic(auto)]
 
-ghost use Rattle.std.specs.Prelude.{◌≤◌, length};
+ghost use Rattle.std.specs.Prelude.{◌≡◌, ◌≤◌, length, replicate, OnOk};
+ghost use Rattle.std.specs.Io.KnownBytes.{Appends};
+ghost use Rattle.site_calls.specs.Lines.{answer_line, output_line, case_text};
 
-use libc::STDOUT_FILENO;
+use std::io::{self, Write};
 
 // The output before the call: every byte 165, so that a byte that is written shows.
-fn fill(out: &mut [u8]) {
-    let mut i: usize = 0;
-    while i < out.len() {
-        out[i] = 165;
-        i += 1;
-    }
+fn fill(out: &mut [u8])
+    ensures { out.new ≡ replicate (length out.old) 165 }
+{
+    out.fill(165);
 }
 
 // Prints a line: a word, a number, a line feed.
-fn print_answer(a: sum_rules::SumsAnswer) {
-    io::write_all(STDOUT_FILENO, b"answer ");
-    io::print_hex(STDOUT_FILENO, c_structs::pack(a), 16);
-    io::write_all(STDOUT_FILENO, b"\n");
+fn print_answer<W: Write>(output: &mut W, a: sum_rules::SumsAnswer) -> io::Result<()>
+    ensures { OnOk result (Appends (W.contents output.old) (W.contents output.new) (answer_line a)) }
+{
+    let packed = c_structs::pack(a);
+    writeln!(output, "answer {packed:016x}")
 }
 
-fn print_output(out: &[u8])
+fn print_output<W: Write>(output: &mut W, out: &[u8]) -> io::Result<()>
     requires { length out.now ≤ 65536 }
+    ensures { OnOk result (Appends (W.contents output.old) (W.contents output.new) (output_line out.now)) }
 {
-    io::write_all(STDOUT_FILENO, b"output ");
-    io::print_decimal(STDOUT_FILENO, case_output::weigh(out) as u64);
-    io::write_all(STDOUT_FILENO, b"\n");
+    let weight = case_output::weigh(out);
+    writeln!(output, "output {weight}")
 }
 
 // Lists a site with an output of the given bytes, and prints what came of it.
-pub fn run_case(site: &[u8], out: &mut [u8])
+pub fn run_case<W: Write>(output: &mut W, site: &[u8], out: &mut [u8]) -> io::Result<()>
     requires { length out.old ≤ 65536 }
+    ensures { OnOk result (Appends (W.contents output.old) (W.contents output.new) (case_text site.now (length out.old))) }
 {
     fill(out);
     let mut text = [0u8; 24576];
     let listed = listing::list_site(site, out, &mut text);
     let n = listed.length;
-    io::write_all(STDOUT_FILENO, &text[..n]);
-    print_answer(listed.answer);
-    print_output(out);
+    output.write_all(&text[..n])?;
+    print_answer(output, listed.answer)?;
+    print_output(output, out)
 }

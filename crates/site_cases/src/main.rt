@@ -4,36 +4,41 @@
 // site_calls runs a case.
 #![tactic(auto)]
 
-use libc::STDIN_FILENO;
+use case_input::read_full;
 use site_calls::run_case;
+use std::io::{self, Read, Write};
 
 // Reads a case and runs it. False when the input has no whole case left.
-fn next_case() -> bool {
+fn next_case<R: Read, W: Write>(input: &mut R, output: &mut W) -> io::Result<bool> {
     let mut head = [0u8; 8];
-    if io::read_full(STDIN_FILENO, &mut head) < 8 {
-        return false;
+    if read_full(input, &mut head)? < 8 {
+        return Ok(false);
     }
     let n = words::word(&head, 0) as usize;
     let m = words::word(&head, 4) as usize;
     if 65536 < n {
-        return false;
+        return Ok(false);
     }
     if 65536 < m {
-        return false;
+        return Ok(false);
     }
-    let mut site = io::large_buffer();
-    let mut out = io::large_buffer();
-    if io::read_full(STDIN_FILENO, &mut site[..n]) < n {
-        return false;
+    let mut site = [0u8; 65536];
+    let mut out = [0u8; 65536];
+    if read_full(input, &mut site[..n])? < n {
+        return Ok(false);
     }
-    run_case(&site[..n], &mut out[..m]);
-    true
+    run_case(output, &site[..n], &mut out[..m])?;
+    Ok(true)
 }
 
-// A proved loop has to end, and nothing says that the input does: so the turns are counted down.
-fn main() {
-    let mut turns = u64::MAX;
-    while turns > 0 && next_case() {
-        turns -= 1;
+// A proved loop has to end, and nothing says that the input does: so the turns are counted.
+fn main(rt: HostRuntime) -> io::Result<()> {
+    let mut input = rt.stdin();
+    let mut output = rt.stdout();
+    for _ in 0..u64::MAX {
+        if !next_case(&mut input, &mut output)? {
+            break;
+        }
     }
+    Ok(())
 }

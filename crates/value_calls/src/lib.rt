@@ -8,69 +8,76 @@ use decimal::Decimal;
 use guideline_rules::GuidelineAnswer;
 use inputs::Scenario;
 use rounding::Direction;
+use std::io::{self, Read, Write};
 use sum_rules::SumsAnswer;
 
 // The longest list that a case lends: one record more than the call takes.
 const RECORDS: usize = 121;
 
 // Prints what the single guideline sends back: refusal, block, eight decimals.
-fn print_guidelines(a: GuidelineAnswer) {
+fn print_guidelines<W: Write>(output: &mut W, a: GuidelineAnswer) -> io::Result<()> {
     let refusal = a.refusal;
     let risk = a.risk;
     let hazard = a.hazard;
-    print_next(outcome::number(refusal));
-    print_next(a.block);
-    print_four(risk.first, risk.second, risk.third, risk.total);
-    print_four(hazard.first, hazard.second, hazard.third, hazard.total);
+    print_next(output, outcome::number(refusal))?;
+    print_next(output, a.block)?;
+    print_four(output, risk.first, risk.second, risk.third, risk.total)?;
+    print_four(
+        output,
+        hazard.first,
+        hazard.second,
+        hazard.third,
+        hazard.total,
+    )
 }
 
 // Prints what the list call sends back: refusal, block, four sums, two verdicts.
-fn print_sums(a: SumsAnswer) {
+fn print_sums<W: Write>(output: &mut W, a: SumsAnswer) -> io::Result<()> {
     let refusal = a.refusal;
     let risk = a.risk;
     let hazard = a.hazard;
     let of_risk = risk.verdict;
     let of_hazard = hazard.verdict;
-    print_next(outcome::number(refusal));
-    print_next(a.block);
-    print_four(risk.lower, risk.upper, hazard.lower, hazard.upper);
-    print_next(sums::verdict_number(of_risk));
-    print_next(sums::verdict_number(of_hazard));
+    print_next(output, outcome::number(refusal))?;
+    print_next(output, a.block)?;
+    print_four(output, risk.lower, risk.upper, hazard.lower, hazard.upper)?;
+    print_next(output, sums::verdict_number(of_risk))?;
+    print_next(output, sums::verdict_number(of_hazard))
 }
 
 // Call 1, on a header block and a contaminant block: the single guideline.
-pub fn run_guideline() {
-    let h = read_header();
+pub fn run_guideline<R: Read, W: Write>(input: &mut R, output: &mut W) -> io::Result<()> {
+    let h = read_header(input)?;
     let s = h.scenario;
-    let r = read_contaminant();
-    print_guidelines(guideline::guideline(s, h.medium, r));
+    let r = read_contaminant(input)?;
+    print_guidelines(output, guideline::guideline(s, h.medium, r))
 }
 
 // Call 2, on a header block and n contaminant blocks, 0 to 121: the sums of the list.
-pub fn run_list(n: usize) {
+pub fn run_list<R: Read, W: Write>(input: &mut R, output: &mut W, n: usize) -> io::Result<()> {
     if RECORDS < n {
-        return;
+        return Ok(());
     }
-    let h = read_header();
+    let h = read_header(input)?;
     let s = h.scenario;
-    let r = read_records(n);
+    let r = read_records(input, n)?;
     let records = r.list;
-    print_sums(sums_of_first(s, h.medium, records, n));
+    print_sums(output, sums_of_first(s, h.medium, records, n))
 }
 
 // Call 5: the built-in scenario of a number: refusal, block and factors.
-pub fn run_built_in(number: u32) {
+pub fn run_built_in<W: Write>(output: &mut W, number: u32) -> io::Result<()> {
     let b = Scenario::built_in(number);
     let refusal = b.refusal;
     let s = b.scenario;
-    print_next(outcome::number(refusal));
-    print_next(b.block);
+    print_next(output, outcome::number(refusal))?;
+    print_next(output, b.block)?;
     let x = s.exposure;
     let c = s.contact;
     let t = s.targets;
-    print_four(x.ef, x.ed, x.bw, x.at);
-    print_four(c.ir, c.ira, c.pef, c.et);
-    print_four(c.rf, c.sa, t.tr, t.thi);
+    print_four(output, x.ef, x.ed, x.bw, x.at)?;
+    print_four(output, c.ir, c.ira, c.pef, c.et)?;
+    print_four(output, c.rf, c.sa, t.tr, t.thi)
 }
 
 // Down for an even choice, up for an odd one.
@@ -94,14 +101,18 @@ fn operate(choice: u32, a: Decimal, b: Decimal) -> Decimal {
 
 // Call 6, on a contaminant block: an operation on its first two decimals, or, for choice 7, whether the first is at most the
 // second.
-pub fn run_decimals(choice: u32) {
-    let r = read_contaminant();
+pub fn run_decimals<R: Read, W: Write>(
+    input: &mut R,
+    output: &mut W,
+    choice: u32,
+) -> io::Result<()> {
+    let r = read_contaminant(input)?;
     let t = r.toxicity;
     let a = t.sfo;
     let b = t.sfi;
     if choice < 7 {
-        print_pair(operate(choice, a, b));
+        print_pair(output, operate(choice, a, b))
     } else {
-        print_next(a.at_most(b) as u32);
+        print_next(output, a.at_most(b) as u32)
     }
 }

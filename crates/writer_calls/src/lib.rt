@@ -6,42 +6,54 @@ ghost use Rattle.std.specs.Prelude.{◌≤◌, length};
 use call_records::{read_contaminant, read_header};
 use case_output::{print_next, weigh};
 use outcome::Answer;
+use std::io::{self, Read, Write};
 
 // Prints what a writer sends back and leaves: refusal, block, and the weighed output.
-fn print_written(a: Answer, out: &[u8])
+fn print_written<W: Write>(output: &mut W, a: Answer, out: &[u8]) -> io::Result<()>
     requires { length out.now ≤ 1024 }
 {
     let refusal = a.refusal;
-    print_next(outcome::number(refusal));
-    print_next(a.block);
-    print_next(weigh(out));
+    print_next(output, outcome::number(refusal))?;
+    print_next(output, a.block)?;
+    print_next(output, weigh(out))
 }
 
 // Call 3, on a header block: its writer, into all of the output.
-fn run_header(out: &mut [u8])
+fn run_header<R: Read, W: Write>(input: &mut R, output: &mut W, out: &mut [u8]) -> io::Result<()>
     requires { length out.old ≤ 1024 }
 {
-    let a = writers::write_header(out, read_header());
-    print_written(a, out);
+    let a = writers::write_header(out, read_header(input)?);
+    print_written(output, a, out)
 }
 
 // Call 4, on a contaminant block: its writer, for the given place.
-fn run_contaminant(place: u32, out: &mut [u8])
+fn run_contaminant<R: Read, W: Write>(
+    input: &mut R,
+    output: &mut W,
+    place: u32,
+    out: &mut [u8],
+) -> io::Result<()>
     requires { length out.old ≤ 1024 }
 {
-    let a = writers::write_contaminant(out, place, read_contaminant());
-    print_written(a, out);
+    let a = writers::write_contaminant(out, place, read_contaminant(input)?);
+    print_written(output, a, out)
 }
 
 // Lends a writer so many bytes, 0 to 1024: each 165, so that a byte that is written shows.
-pub fn run_writer(call: u32, room: usize, place: u32) {
+pub fn run_writer<R: Read, W: Write>(
+    input: &mut R,
+    output: &mut W,
+    call: u32,
+    room: usize,
+    place: u32,
+) -> io::Result<()> {
     if 1024 < room {
-        return;
+        return Ok(());
     }
     let mut out = [165u8; 1024];
     if call == 3 {
-        run_header(&mut out[..room]);
+        run_header(input, output, &mut out[..room])
     } else {
-        run_contaminant(place, &mut out[..room]);
+        run_contaminant(input, output, place, &mut out[..room])
     }
 }

@@ -1,2 +1,0 @@
--- The loan of the first elements of an array.
-pub mod Lending

@@ -1,0 +1,2 @@
+-- What is printed of numbers, decimals and outputs.
+pub mod Printed

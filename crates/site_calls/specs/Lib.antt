@@ -1,0 +1,2 @@
+-- What is printed of a case.
+pub mod Lines
