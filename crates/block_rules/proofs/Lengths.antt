@@ -1,7 +1,7 @@
 -- How long the parts of a block are. Assumes nothing.
 use mathlib.Core.Path.{◌≡◌}
 use mathlib.Core.List.{List}
-use Prim.Native.Nat.{ℕ, ◌+◌, ◌*◌, ◌-◌}
+use Prim.Native.Nat.{ℕ, ◌+◌, ◌*◌}
 use lib.ListN.{length, length-append}
 use Rattle.words.proofs.Words.{le4_length}
 use Rattle.decimal.specs.declared.Decimal.{Decimal}

@@ -1,12 +1,12 @@
 -- What the readers answer once each test has gone one way or the other. Assumes nothing.
 use mathlib.Core.Path.{◌≡◌, sym, ap, ap₂, ◌∙◌}
 use mathlib.Core.List.{List}
-use mathlib.Core.Bool.{Bool, true, false, ◌&&◌, not}
+use mathlib.Core.Bool.{Bool, true, false, ◌&&◌}
 use Prim.Native.Nat.{ℕ, ◌+◌, ◌-◌}
 use native.Mathlib.Omega.{arith}
 use lib.ListN.{length, take, drop}
 use lib.Dec.{eqb, leb}
-use borrow.Author.Tests.{eq-eqb, not-false}
+use borrow.Author.Tests.{eq-eqb}
 use Rattle.outcome.specs.declared.Refusal.TheVariants.{Length, Check, Kind, Field, Count, Factor, Order}
 use Rattle.words.specs.Words.{word_at, part_of}
 use Rattle.words.proofs.Parts.{word_first}
@@ -35,11 +35,11 @@ module _ (s : List ℕ) (at : ℕ) where
   kind_here kind w t e h = ap (λ (n : ℕ). eqb n kind) (word_first s at 512 (omega arith) ∙ sym e) ∙ h
 
   -- a whole block that is sound and of this kind
-  pub passed_here : {place kind w : ℕ} {t u : Bool} → t ≡ eqb (length (part_of s at 512)) 512 → not t ≡ false
-      → u ≡ sound_at (take (at + 512 - at) (drop at s)) place → not u ≡ false → w ≡ word_at s at → w ≡ kind → Passed (part_of s at 512) place kind
+  pub passed_here : {place kind w : ℕ} {t u : Bool} → t ≡ eqb (length (part_of s at 512)) 512 → t ≡ true
+      → u ≡ sound_at (take (at + 512 - at) (drop at s)) place → u ≡ true → w ≡ word_at s at → w ≡ kind → Passed (part_of s at 512) place kind
   passed_here {place} {kind} {w} {t} {u} long n sound m word k = record {
-    long = sym long ∙ not-false t n;
-    sound = sound_here place u sound ∙ not-false u m;
+    long = sym long ∙ n;
+    sound = sound_here place u sound ∙ m;
     first = kind_here kind w true word (eq-eqb w kind k);
   }
 

@@ -1,11 +1,11 @@
 -- A decimal that stands for a fraction: on the side dir of it, within k roundings, its exponent within w of -8.
 -- Products, quotients and sums of such decimals stand for the products, quotients and sums: of two, and of lists. Assumes nothing.
 use mathlib.Core.Path.{◌≡◌, refl, sym, ap, subst, ◌∙◌}
-use mathlib.Core.Bool.{Bool, true, false, cond, ◌&&◌}
-use mathlib.Core.Logic.{◌⊎◌, inl, inr}
+use mathlib.Core.Bool.{Bool, true, false, cond}
+use mathlib.Core.Logic.{inr}
 use mathlib.Core.List.{List, [], ◌∷◌}
-use Prim.Native.Nat.{ℕ, suc, ◌+◌, ◌-◌, ◌*◌, ◌^◌, ◌≤◌, ◌<◌}
-use native.Mathlib.Nat.{mul-pos, mul-one, zero-mul, le_refl}
+use Prim.Native.Nat.{ℕ, ◌+◌, ◌-◌, ◌*◌, ◌^◌, ◌≤◌, ◌<◌}
+use native.Mathlib.Nat.{mul-pos, zero-mul, le_refl}
 use native.Mathlib.Omega.{arith}
 use lib.Dec.{eqb, lit≤}
 use lib.IntN.{ℤ}
@@ -16,7 +16,6 @@ use Rattle.rounding.specs.declared.Number.{Number}
 use Rattle.rounding.specs.Direction.{opposite}
 use Rattle.rounding.specs.Within.{Directed}
 use Rattle.rounding.specs.Number.{worth, one, Nine, InRange}
-use Rattle.rounding.specs.Round.{Rounds}
 use Rattle.rounding.specs.Operations.{product_of, quotient_of, sum_of}
 use Rattle.rounding.proofs.Distances.{opposed, directed_refl, directed_more, directed_trans, directed_mul, directed_scale, directed_cancel, directed_add, directed_is}
 use Rattle.rounding.proofs.Greatest.{pow_ten_pos}

@@ -1,26 +1,26 @@
 -- What the operations on decimals come to: each result is the greatest working decimal not above the exact result, or the
 -- least not below it, zero included. Assumes nothing.
 use mathlib.Core.Path.{◌≡◌, refl, sym, ap, subst, ◌∙◌}
-use mathlib.Core.Bool.{Bool, true, false, cond, not, ◌&&◌}
+use mathlib.Core.Bool.{Bool, true, false, cond, ◌&&◌}
 use mathlib.Core.Logic.{◌⊎◌, inl, inr}
-use Prim.Native.Nat.{ℕ, ◌+◌, ◌-◌, ◌*◌, ◌^◌, ◌≤◌, ◌<◌}
+use Prim.Native.Nat.{ℕ, ◌+◌, ◌*◌, ◌^◌, ◌<◌}
 use native.Mathlib.Nat.{zero-mul, mul-zero}
 use native.Mathlib.Omega.{arith}
 use lib.IntN.{sub_ℕ}
-use lib.Dec.{eqb, leb, lit<}
+use lib.Dec.{eqb}
 use borrow.Author.Tests.{eqb-true, eqb-false, eq-eqb, ne_eqb, le-leb}
 use Rattle.rounding.specs.declared.Direction.{Direction}
 use Rattle.rounding.specs.declared.Number.{Number}
-use Rattle.rounding.specs.Number.{worth, one, Nine, Working, InRange, rank_of}
-use Rattle.rounding.specs.Round.{Rounds, round_of}
-use Rattle.rounding.specs.Operations.{product_of, quotient_of, gap_of, aligned_of, sum_of}
+use Rattle.rounding.specs.Number.{worth, one, Nine, Working, InRange}
+use Rattle.rounding.specs.Round.{Rounds}
+use Rattle.rounding.specs.Operations.{product_of, quotient_of}
 use Rattle.rounding.specs.WorkingForm.{nine_of}
-use Rattle.rounding.proofs.Greatest.{rounds_worth, rounds_mono}
-use Rattle.rounding.proofs.ExactResults.{one_pos, product_zero, product_rounds, quotient_zero, quotient_nothing, quotient_rounds, sum_rounds}
+use Rattle.rounding.proofs.Greatest.{rounds_worth}
+use Rattle.rounding.proofs.ExactResults.{product_zero, product_rounds, quotient_zero, quotient_nothing, quotient_rounds, sum_rounds}
 use Rattle.rounding.proofs.Exponents.{worth_same}
-use Rattle.rounding.proofs.NineDigits.{nine_worth, nine_nine, nine_zero, nine_result}
+use Rattle.rounding.proofs.NineDigits.{nine_worth, nine_nine, nine_zero}
 use Rattle.decimal.specs.declared.Decimal.{Decimal}
-use Rattle.decimal.specs.Exponent.{raise, raised}
+use Rattle.decimal.specs.Exponent.{raised}
 use Rattle.decimal.specs.Decimal.{zero_of, biased_of, decimal_of, plain_of, value_of, is_operand, are_operands, mul_of, div_of, add_of, working_of}
 use Rattle.decimal.proofs.Bias.{raised_bounds, raised_is, raise_lower, raised_lower}
 use Rattle.decimal.proofs.OperandFacts.{Operand, operand_is, is_operand_lem, exponent_is}

@@ -1,5 +1,5 @@
 -- Decimals (docs/SPECIFICATION.md, "Decimals"): the pair (m, e) is worth m * 10^e. What an operand is, and the operations.
-use Rattle.std.specs.Prelude.{Bool, true, false, cond, not, ◌&&◌, ℕ, ◌≤◌, ◌<◌, ◌-◌, pos, eqb, leb}
+use Rattle.std.specs.Prelude.{Bool, cond, not, ◌&&◌, ℕ, ◌≤◌, ◌<◌, ◌-◌, pos, eqb, leb}
 use Rattle.std.proofs.Math.IntN.{sub_ℕ}
 use Rattle.rounding.specs.Sizes.{nine_digits, ten_digits, bias}
 use Rattle.rounding.specs.declared.Direction.{Direction}

@@ -1,12 +1,12 @@
 -- The values of a scenario and a contaminant stand for their exact fractions: the inputs exactly, what is worked out of them, in front, within
 -- its roundings. Assumes nothing.
-use mathlib.Core.Path.{◌≡◌, refl, sym, ap, subst, ◌∙◌}
-use mathlib.Core.Bool.{Bool, true, false, cond, ◌&&◌}
+use mathlib.Core.Path.{◌≡◌, refl, ap, ◌∙◌}
+use mathlib.Core.Bool.{Bool, true, false, cond}
 use mathlib.Core.List.{List, [], ◌∷◌, ◌++◌, map}
-use Prim.Native.Nat.{ℕ, zero, suc, zero-le, ◌+◌, ◌≤◌, ◌<◌}
+use Prim.Native.Nat.{ℕ, zero, suc}
 use native.Mathlib.Omega.{arith}
 use lib.Dec.{ltb, lit<, lit≤}
-use lib.ListN.{length, get_or, length-map}
+use lib.ListN.{length, length-map}
 use borrow.Author.Tests.{le-ltb, lt-ltb, ltb-true, ltb-false}
 use Rattle.rounding.specs.declared.Direction.{Direction}
 use Rattle.rounding.specs.Direction.{opposite}
@@ -21,7 +21,7 @@ use Rattle.inputs.proofs.Tests.{and_split, valid_small}
 use Rattle.formulas.specs.Formula.{Formula, derived, derived_places}
 use Rattle.formulas.specs.Term.{look, plain_values, values_of, term_of, total_of}
 use Rattle.formulas.specs.ExactTerm.{exactly, exact_plain, exact_values, exact_total}
-use Rattle.formulas.proofs.Sound.{is_derived, roundings_of, width_of, Sounds, Every, derived_every, derived_places_lem}
+use Rattle.formulas.proofs.Sound.{is_derived, Every, derived_every, derived_places_lem}
 use Rattle.formulas.proofs.Sound.Every.{end as no-tables, next as one_table}
 use Rattle.formulas.proofs.TermBounds.{Represents, total_fair}
 

@@ -4,7 +4,7 @@ use mathlib.Core.Bool.{Bool, true, false, false≢true, cond, not}
 use mathlib.Core.List.{List}
 use Prim.Native.Nat.{ℕ, zero, suc, ◌+◌, ◌*◌, ◌≤◌, ◌<◌}
 use native.Mathlib.Omega.{arith}
-use lib.Dec.{eqb, lit<, lit≤}
+use lib.Dec.{eqb, lit≤}
 use lib.ListN.{get_or}
 use borrow.Author.Tests.{eq-eqb, ne_eqb, eqb-true, eqb-false}
 use Rattle.rounding.specs.declared.Direction.{Direction}
@@ -14,7 +14,7 @@ use Rattle.rounding.specs.Number.{one}
 use Rattle.rounding.proofs.Distances.{parts}
 use Rattle.decimal.specs.declared.Decimal.{Decimal}
 use Rattle.decimal.specs.Decimal.{zero_of, value_of, div_of}
-use Rattle.decimal.specs.Fraction.{Fraction, given, times, over}
+use Rattle.decimal.specs.Fraction.{Fraction, given, over}
 use Rattle.decimal.proofs.Laws.{div_zero}
 use Rattle.decimal.proofs.Approximation.{Approx, Fair, approx_div, fair_most, fair_zero, fair_there, given_zero}
 use Rattle.decimal.proofs.Approximation.Fair.{none, some}

@@ -13,7 +13,7 @@ use Rattle.formulas.specs.Side.{Risk, Hazard}
 use Rattle.guideline_rules.specs.declared.SideGuidelines.{SideGuidelines}
 use Rattle.guideline_rules.specs.declared.GuidelineAnswer.{GuidelineAnswer}
 use Rattle.guideline_rules.specs.Pathway.{record_refusal}
-use Rattle.guideline_rules.specs.Guideline.{guidelines_of, guideline_ranged, refused, accepted, unless_refused, worked_out, guideline_of}
+use Rattle.guideline_rules.specs.Guideline.{guidelines_of, guideline_ranged, refused, accepted, worked_out, guideline_of}
 
 -- accepted, or number, block and zeros
 record Told (g : GuidelineAnswer) : Type 0 where

@@ -1,8 +1,8 @@
 -- The sum of a side's terms: its distance, and that it is above zero exactly when there is a pathway. Assumes nothing.
 use mathlib.Core.Path.{◌≡◌, refl, sym, ap, subst, ◌∙◌}
-use mathlib.Core.Bool.{Bool, true, false, not, ◌&&◌, ◌||◌}
+use mathlib.Core.Bool.{not}
 use mathlib.Core.List.{List, [], ◌∷◌, map}
-use Prim.Native.Nat.{ℕ, ◌+◌, ◌≤◌}
+use Prim.Native.Nat.{ℕ, ◌+◌}
 use lib.Dec.{eqb, lit≤}
 use lib.ListN.{length, length-map}
 use Rattle.rounding.specs.declared.Direction.{Direction}

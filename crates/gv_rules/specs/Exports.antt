@@ -5,7 +5,6 @@ use Rattle.outcome.specs.declared.Refusal.TheVariants.{Room}
 use Rattle.outcome.specs.Outcome.{number_of}
 use Rattle.inputs.specs.declared.Contaminant.{Contaminant}
 use Rattle.inputs.specs.BuiltIn.{no_contaminant, built_in_of}
-use Rattle.words.specs.Bytes.{over}
 use Rattle.fields.specs.Fields.{field_bytes}
 use Rattle.block_rules.specs.declared.Header.{Header}
 use Rattle.block_rules.specs.Rules.{struct_size}

@@ -1,9 +1,7 @@
 -- The three built-in scenarios (docs/SPECIFICATION.md, "Built-in scenarios"), with their pairs (m, e) fixed: a whole number below 1,000 has e = 0,
 -- any other value the digits that are printed there.
-use Rattle.std.specs.Prelude.{cond, [], ℕ, eqb, ℤ, pos, negsuc}
-use Rattle.outcome.specs.declared.Refusal.{Refusal}
+use Rattle.std.specs.Prelude.{cond, [], ℕ, eqb, pos, negsuc}
 use Rattle.outcome.specs.declared.Refusal.TheVariants.{Accepted, Scenario as NoScenario}
-use Rattle.decimal.specs.declared.Decimal.{Decimal}
 use Rattle.decimal.specs.Figures.{dec}
 use Rattle.inputs.specs.declared.Scenario.{Scenario}
 use Rattle.inputs.specs.declared.Contaminant.{Contaminant}

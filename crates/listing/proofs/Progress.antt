@@ -6,7 +6,7 @@ use native.Mathlib.Omega.{arith}
 use lib.ListN.{length}
 use Rattle.site_rules.specs.Blocks.{block_at}
 use Rattle.words.specs.Bytes.{placed, over}
-use Rattle.words.proofs.Written.{Wrote, wrote_none, wrote_next, over_length}
+use Rattle.words.proofs.Written.{Wrote, wrote_none, wrote_next}
 use Rattle.listing.specs.Asked.{block_lines, block_lines_to}
 use Rattle.listing.proofs.BlockLines.{blocks_next, blocks_most}
 
@@ -16,9 +16,6 @@ wrote_then {l} {p} {d} {at} W w {l'} {end} q = subst (Wrote l' (p ++ w) d) (sym 
 -- put at the very start
 pub wrote_first : (d w : List ℕ) {l' : List ℕ} {end : ℕ} → (end ≡ 0 + length w) × (l' ≡ placed d 0 w) → Wrote l' w d end
 wrote_first d w q = wrote_then (wrote_none d) w q
-
-pub wrote_long : {l p d : List ℕ} {at : ℕ} → Wrote l p d at → at ≤ length d → length l ≡ length d
-wrote_long {l} {p} {d} {at} W h = ap length W.now ∙ over_length p d (omega (arith, W.long))
 
 -- the same as a promise has it, for the same bytes said in another way
 pub wrote_all : {l p q d : List ℕ} {at : ℕ} → p ≡ q → Wrote l p d at → (at ≡ length q) × (l ≡ over q d)

@@ -53,7 +53,8 @@ module _ (site out : List ℕ) (z : number_of (site_answer site (length out)).re
   id_word k = omega (arith, word_part site (512 * k) 512 12 (omega arith), word_most site byte (512 * k + 12))
 
   module _ (k : ℕ) (first : 1 ≤ k) (last : k ≤ (header_of site).count) where
-    place_spells : block_lines (block_at (site_left site out) k) ≡ lines_of (record_at site k).class (record_at site k).id (guideline_of s medium (record_at site k)).risk (guideline_of s medium (record_at site k)).hazard
+    place_spells : block_lines (block_at (site_left site out) k)
+        ≡ lines_of (record_at site k).class (record_at site k).id (guideline_of s medium (record_at site k)).risk (guideline_of s medium (record_at site k)).hazard
     place_spells = block_spells (site_result_back site out z k first last) (id_word k)
 
   lines_read : (n : ℕ) → n ≤ (header_of site).count → block_lines_to (site_left site out) n ≡ lines_to s medium site n

@@ -1,6 +1,6 @@
 -- The sum line of a side with verdict 4 is exactly "sum SIDE - - none". Assumes nothing.
 use mathlib.Core.Path.{◌≡◌, refl}
-use mathlib.Core.List.{List, [], ◌∷◌, ◌++◌}
+use mathlib.Core.List.{List}
 use Prim.Native.Nat.{ℕ, zero, suc}
 use native.Mathlib.Omega.{arith}
 use Rattle.outcome.specs.Outcome.{number_of}

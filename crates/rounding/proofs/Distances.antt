@@ -1,5 +1,5 @@
 -- Distances compose: one after the other, multiplied, added, scaled; each law once for both directions. Assumes nothing.
-use mathlib.Core.Path.{◌≡◌, refl, subst}
+use mathlib.Core.Path.{◌≡◌, subst}
 use Prim.Native.Nat.{ℕ, ◌+◌, ◌*◌, ◌^◌, ◌≤◌, ◌<◌}
 use native.Mathlib.Nat.{le_refl, mul-le-mul, mul-le-mul_right, le_of_mul-le-mul_right, pow-le-pow_left, add_comm, zero-add, mul-le-mul_left, one-le-pow}
 use native.Mathlib.Omega.{arith}
@@ -7,7 +7,7 @@ use lib.Pow.{pow-add}
 use lib.Dec.{T, leb, leb→le, lit≤, lit<}
 use Rattle.rounding.specs.declared.Direction.{Direction}
 use Rattle.rounding.specs.declared.Direction.TheVariants.{Down, Up}
-use Rattle.rounding.specs.Direction.{opposite, lower, upper}
+use Rattle.rounding.specs.Direction.{opposite}
 use Rattle.rounding.specs.Within.{Within, Directed}
 
 -- ---- without a direction

@@ -1,18 +1,18 @@
 -- Each operation is the directed rounding of the exact result, zero included. Assumes nothing.
-use mathlib.Core.Path.{◌≡◌, refl, sym, ap, subst, ◌∙◌}
+use mathlib.Core.Path.{◌≡◌, refl, sym, ap, ◌∙◌}
 use mathlib.Core.Bool.{Bool, true, false, cond}
-use mathlib.Core.Logic.{◌⊎◌, inl, inr}
+use mathlib.Core.Logic.{inl, inr}
 use Prim.Native.Nat.{ℕ, ◌+◌, ◌-◌, ◌*◌, ◌^◌, ◌≤◌, ◌<◌}
-use native.Mathlib.Nat.{mul-le-mul, mul-le-mul_right, mul-pos, zero-mul, mul-zero, add-zero, mul-one, add_comm}
+use native.Mathlib.Nat.{mul-le-mul, mul-le-mul_right, mul-pos, zero-mul, mul-zero, add-zero, add_comm}
 use native.Mathlib.Omega.{arith}
 use lib.Pow.{pow-add}
-use lib.Dec.{eqb, ltb, leb, lit<, lit≤}
+use lib.Dec.{leb, lit<}
 use borrow.Author.Tests.{eq-eqb, ne_eqb, le-leb, lt-leb, lt-ltb, leb-true, leb-false}
 use Rattle.rounding.specs.declared.Direction.{Direction}
 use Rattle.rounding.specs.declared.Number.{Number}
 use Rattle.rounding.specs.Number.{worth, one, Nine, Working, InRange, rank_of}
 use Rattle.rounding.specs.Round.{Rounds, divide_of, cut_of, round_of}
-use Rattle.rounding.specs.Operations.{product_of, quotient_of, dividend_of, divisor_of, gap_of, aligned_of, sum_of}
+use Rattle.rounding.specs.Operations.{product_of, quotient_of, gap_of, aligned_of, sum_of}
 use Rattle.rounding.proofs.WholeQuotients.{divide_beside, divide_zero}
 use Rattle.rounding.proofs.Greatest.{pow_ten_pos, rounds_same, round_rounds, zero_rounds, round_zero}
 

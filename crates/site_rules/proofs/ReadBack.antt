@@ -22,8 +22,6 @@ use Rattle.decimal.proofs.Value.Value.{absent, known}
 use Rattle.outcome.specs.Outcome.{number_of}
 use Rattle.inputs.specs.declared.Scenario.{Scenario}
 use Rattle.inputs.specs.declared.Contaminant.{Contaminant}
-use Rattle.inputs.specs.Inputs.{contaminant_decimals}
-use Rattle.inputs.specs.Valid.{all_valid}
 use Rattle.inputs.specs.Rules.{one_or_two}
 use Rattle.inputs.proofs.Tests.{and_split}
 use Rattle.formulas.specs.Side.{Side, Risk, Hazard}
@@ -35,7 +33,6 @@ use Rattle.guideline_rules.specs.Guideline.{side_of, side_decimals, all_ranged, 
 use Rattle.guideline_rules.proofs.Accepted.{accepted_inputs}
 use Rattle.guideline_rules.proofs.Promises.{ranged, accepted_is}
 use Rattle.sum_rules.specs.declared.SumsAnswer.{SumsAnswer}
-use Rattle.sum_rules.specs.ListCall.{sums_of}
 use Rattle.sum_rules.specs.Promise.{side_at}
 use Rattle.sum_rules.proofs.NeverOutOfRange.{RangedSums, sums_ranged}
 use Rattle.block_rules.specs.Layouts.{guideline_decimals, summary_decimals}

@@ -1,5 +1,5 @@
 -- The numbers of an answer, each of which has its own byte in the word of the C library.
-use Rattle.std.specs.Prelude.{ℕ, ◌≤◌}
+use Rattle.std.specs.Prelude.{◌≤◌}
 use Rattle.inputs.specs.Rules.{most_contaminants}
 use Rattle.outcome.specs.Outcome.{number_of, most_number}
 use Rattle.sum_rules.specs.declared.SumsAnswer.{SumsAnswer}

@@ -1,14 +1,13 @@
--- A word put byte by byte: what stands there after i bytes, and after all of them. How long the fixed words are. Assumes nothing.
-use mathlib.Core.Path.{◌≡◌, refl, sym, ap, ◌∙◌}
+-- A word put byte by byte: what stands there after i bytes, and after all of them. Assumes nothing.
+use mathlib.Core.Path.{◌≡◌, sym, ap, ◌∙◌}
 use mathlib.Core.List.{List}
-use Prim.Native.Nat.{ℕ, zero, suc, ◌+◌, ◌≤◌, ◌<◌}
+use Prim.Native.Nat.{ℕ, ◌+◌, ◌≤◌, ◌<◌}
 use native.Mathlib.Omega.{arith}
 use native.Mathlib.Numerals.{add-one}
 use lib.ListN.{length, get_or, take, set}
 use lib.Seq.{length-take-le, take-suc, take-length}
 use Rattle.words.specs.Bytes.{placed}
-use Rattle.words.proofs.Written.{placed_length, placed_none, placed_snoc}
-use Rattle.listing_rules.specs.Lines.{side_word}
+use Rattle.words.proofs.Written.{placed_none, placed_snoc}
 
 module _ (l w : List ℕ) (at : ℕ) (room : at + length w ≤ length l) where
   pub word_none : l ≡ placed l at (take 0 w)
@@ -16,9 +15,6 @@ module _ (l w : List ℕ) (at : ℕ) (room : at + length w ≤ length l) where
 
   -- the first i bytes stand there
   module _ {out : List ℕ} (i : ℕ) (is : out ≡ placed l at (take i w)) where
-    pub word_long : i ≤ length w → length out ≡ length l
-    word_long h = ap length is ∙ placed_length l (take i w) at (omega (arith, length-take-le i w h))
-
     pub word_next : i < length w → set out (at + i) (get_or w i 0) ≡ placed l at (take (i + 1) w)
     word_next h =
         let v : ℕ = get_or w i 0 in
@@ -30,11 +26,3 @@ module _ (l w : List ℕ) (at : ℕ) (room : at + length w ≤ length l) where
 
     pub word_all : i ≡ length w → (at + i ≡ at + length w) × (out ≡ placed l at w)
     word_all e = (ap (λ (k : ℕ). at + k) e, is ∙ ap (λ (k : ℕ). placed l at (take k w)) e ∙ ap (placed l at) (take-length w))
-
--- ---- the word of a side
-pub risk_word : {n : ℕ} → n ≡ 0 → side_word 0 ≡ side_word n
-risk_word e = ap side_word (sym e)
-
-pub hazard_word : (n : ℕ) → (n ≡ 0 → ⊥) → side_word 1 ≡ side_word n
-hazard_word zero h = absurd (h refl)
-hazard_word (suc n) h = refl

@@ -8,7 +8,6 @@ use lib.Dec.{eqb, leb}
 use lib.ListN.{length}
 use borrow.Author.Tests.{eq-eqb, eqb-true, leb-true}
 use Rattle.decimal.proofs.Value.{Value, value_most, fair_value}
-use Rattle.outcome.specs.declared.Refusal.{Refusal}
 use Rattle.outcome.specs.declared.Refusal.TheVariants.{Field, Order}
 use Rattle.outcome.specs.Outcome.{number_of}
 use Rattle.outcome.proofs.Tests.{refused_number}

@@ -1,6 +1,6 @@
 -- "None" has zero sums: where no contaminant of an accepted list has a pathway on a side, both its sums are (0, 0). Assumes nothing.
 use mathlib.Core.Path.{◌≡◌, refl, ap, ◌∙◌}
-use mathlib.Core.Bool.{Bool, true, false, cond, ◌||◌}
+use mathlib.Core.Bool.{Bool, true, false, ◌||◌}
 use mathlib.Core.List.{List, [], ◌∷◌, map}
 use Prim.Native.Nat.{ℕ, ◌*◌}
 use native.Mathlib.Nat.{mul-zero}
@@ -19,16 +19,15 @@ use Rattle.inputs.specs.declared.Contaminant.{Contaminant}
 use Rattle.formulas.specs.Side.{Side}
 use Rattle.formulas.specs.Formula.{Formula}
 use Rattle.formulas.specs.Term.{formulas_for}
-use Rattle.formulas.specs.ExactTerm.{exact_present, exact_evaluated, exact_term, exact_total, exact_for, any_present}
+use Rattle.formulas.specs.ExactTerm.{exact_present, exact_term, exact_total, exact_for, any_present}
 use Rattle.guideline_rules.proofs.Accepted.{Accepted}
-use Rattle.sum_rules.specs.declared.SideSums.{SideSums}
 use Rattle.sum_rules.specs.Share.{Running, start, next, run_all, share_of, exact_used, exact_share}
 use Rattle.sum_rules.specs.Verdict.{verdict_number}
-use Rattle.sum_rules.specs.ListCall.{side_sums, sums_of}
+use Rattle.sum_rules.specs.ListCall.{sums_of}
 use Rattle.sum_rules.specs.Promise.{some_pathway, side_at, ZeroSums}
 use Rattle.sum_rules.proofs.ShareBounds.{AllAccepted, share_bounds}
 use Rattle.sum_rules.proofs.ShareBounds.AllAccepted.{nobody, also}
-use Rattle.sum_rules.proofs.Runs.{AcceptedList, accepted_list}
+use Rattle.sum_rules.proofs.Runs.{accepted_list}
 use Rattle.sum_rules.proofs.Verdicts.{verdict_judges}
 
 -- ---- exactly: absent terms add up to zero

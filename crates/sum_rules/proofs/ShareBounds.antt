@@ -1,7 +1,7 @@
 -- A share stands for its exact value, and the running sums for the exact sum of the list: once for both directions and both sides. Assumes nothing.
 use mathlib.Core.Path.{refl, ap, ◌∙◌}
 use mathlib.Core.List.{List, [], ◌∷◌, map}
-use Prim.Native.Nat.{ℕ, ◌+◌, ◌*◌, ◌≤◌, ◌<◌}
+use Prim.Native.Nat.{ℕ, ◌+◌, ◌*◌, ◌≤◌}
 use native.Mathlib.Nat.{mul-pos, zero-mul, mul-zero, le_refl}
 use native.Mathlib.Omega.{arith}
 use lib.Dec.{lit<, lit≤}
@@ -9,7 +9,7 @@ use lib.ListN.{length, length-map}
 use Rattle.rounding.specs.declared.Direction.{Direction}
 use Rattle.decimal.specs.declared.Decimal.{Decimal}
 use Rattle.decimal.specs.Decimal.{zero_of, mul_of}
-use Rattle.decimal.specs.Fraction.{Fraction, nothing, times}
+use Rattle.decimal.specs.Fraction.{Fraction, times}
 use Rattle.decimal.specs.Lists.{added}
 use Rattle.decimal.proofs.Laws.{mul_zero_left, mul_zero_right}
 use Rattle.decimal.proofs.Approximation.{Fair, Summands, approx_mul, fair_most, sum_fair, working_fair}

@@ -16,7 +16,7 @@ use Rattle.rounding.specs.Number.{one}
 use Rattle.rounding.proofs.Distances.{directed_same, parts}
 use Rattle.rounding.proofs.Greatest.{side_scale, side_trans}
 use Rattle.decimal.specs.declared.Decimal.{Decimal}
-use Rattle.decimal.specs.Decimal.{value_of, at_most_of, working_of}
+use Rattle.decimal.specs.Decimal.{value_of, at_most_of}
 use Rattle.decimal.specs.Fraction.{Fraction, given, times, plus, AtMost}
 use Rattle.decimal.specs.Exponent.{raise}
 use Rattle.decimal.specs.Lists.{plus_all}

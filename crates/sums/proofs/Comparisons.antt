@@ -1,17 +1,16 @@
 -- Numbers compared by worth: the same as their decimals. Assumes nothing.
-use mathlib.Core.Path.{◌≡◌, refl, sym, ap, ◌∙◌}
+use mathlib.Core.Path.{◌≡◌}
 use Prim.Native.Nat.{ℕ, ◌≤◌, ◌<◌}
 use native.Mathlib.Omega.{arith}
-use lib.Dec.{leb, lit≤}
+use lib.Dec.{lit≤}
 use Rattle.rounding.specs.declared.Number.{Number}
-use Rattle.rounding.specs.Number.{Working, worth, at_most_of as numbers_at_most}
-use Rattle.decimal.specs.Decimal.{decimal_of, Printable, value_of, at_most_of}
+use Rattle.rounding.specs.Number.{Working, at_most_of as numbers_at_most}
+use Rattle.decimal.specs.Decimal.{decimal_of, Printable, at_most_of}
 use Rattle.decimal.proofs.Laws.{decimal_worth, decimal_operable}
 use Rattle.inputs.specs.Limits.{sum_width}
-use Rattle.factors.specs.Stands.{Stands}
 use Rattle.factors.proofs.StandsLaws.{stands_operand, stands_most}
 use Rattle.shares.specs.declared.Runs.{Runs}
-use Rattle.sums.specs.State.{Comparable, SideReady, RunsReady}
+use Rattle.sums.specs.State.{Comparable, RunsReady}
 
 -- what a comparison of numbers asks
 pub comparable : {r : Number} → Comparable r → Working r × (0 < r.x)

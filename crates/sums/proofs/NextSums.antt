@@ -60,9 +60,9 @@ module _ (dir : Direction) {s : Scenario} {medium : ℕ} {r : Contaminant} {side
 module _ {s : Scenario} {medium : ℕ} {r : Contaminant} {side : Side} {above below : PathwayTerms} {upper lower c : Number}
     (h : SideTerms s medium r side above below upper lower c) where
   -- the side has a pathway exactly when its upper term sum is above zero
-  pub has_pathway : not (eqb upper.m 0) ≡ has_pathway s medium r side
+  pub has_pathway_lem : not (eqb upper.m 0) ≡ has_pathway s medium r side
   unfolding has_pathway term_sum
-  has_pathway =
+  has_pathway_lem =
       ap not (stands_zero (sum_is Up h.above)) ∙
       any_total _ _ (values_of_lem Up s medium r h.accepted) (formulas_for s medium r side) (table_sound medium r.class side)
       (three_pathways medium r.class side)
@@ -80,4 +80,4 @@ module _ {s : Scenario} {medium : ℕ} {r : Contaminant} {side : Side} {above be
     next_ready = record { lower = stands_own lower_next; upper = stands_own upper_next }
 
     pub next_is : running_of y ≡ next s medium side (running_of x) r
-    next_is = rw (lower_next.is, upper_next.is, e.some, has_pathway)
+    next_is = rw (lower_next.is, upper_next.is, e.some, has_pathway_lem)

@@ -16,7 +16,7 @@ use Rattle.guideline_rules.specs.Pathway.{record_refusal}
 use Rattle.guideline_rules.proofs.Accepted.{accepted_inputs}
 use Rattle.sum_rules.specs.declared.SumsAnswer.{SumsAnswer}
 use Rattle.sum_rules.specs.Share.{Running, next}
-use Rattle.sum_rules.specs.ListCall.{refused, taken_in, walk}
+use Rattle.sum_rules.specs.ListCall.{refused, walk}
 use Rattle.sum_rules.proofs.TakenIn.{taken_ranged}
 use Rattle.sum_rules.proofs.InRange.{FairRun, fair_next, in_range_lem}
 use Rattle.sums.specs.State.{steps}

@@ -19,10 +19,10 @@ loop-i-preserved c =
     record {
       upto = omega arith;
       so_far =
-        elim c.if-s-at-ne0.branch [
-          then-s-at-ne0 w ↦ w.ok-is ∙ sym (z ∙ ap (λ (b : Bool). zeros s at i && b) (ne_eqb _ _ w.if-s-at-ne0.true) ∙ and-false (zeros s at i))
-        | else-s-at-ne0 w ↦ w.ok-is ∙ c.loop-i.invariant.so_far ∙ sym (z ∙ ap (λ (b : Bool). zeros s at i && b) (eq-eqb _ _ w.if-s-at-ne0.false) ∙ and-true (zeros s at i))
-        ];
+          elim c.if-s-at-ne0.branch [
+            | then-s-at-ne0 w ↦ w.ok-is ∙ sym (z ∙ ap (λ (b : Bool). zeros s at i && b) (ne_eqb _ _ w.if-s-at-ne0.true) ∙ and-false (zeros s at i))
+            | else-s-at-ne0 w ↦ w.ok-is ∙ c.loop-i.invariant.so_far ∙ sym (z ∙ ap (λ (b : Bool). zeros s at i && b) (eq-eqb _ _ w.if-s-at-ne0.false) ∙ and-true (zeros s at i))
+          ];
     }
 
 pub returns : goal.returns

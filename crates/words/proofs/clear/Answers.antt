@@ -16,10 +16,10 @@ loop-i-preserved c =
     record {
       upto = omega arith;
       so_far =
-        ap (λ (t : List ℕ). set t (at + i) 0) c.loop-i.invariant.so_far
-            ∙ ap (λ (k : ℕ). set (placed o at (replicate i 0)) (at + k) 0) (sym (length-replicate i 0))
-            ∙ placed_snoc o (replicate i 0) at 0 (simp length-replicate (omega arith))
-            ∙ ap (placed o at) (replicate-append-replicate i 1 0);
+          ap (λ (t : List ℕ). set t (at + i) 0) c.loop-i.invariant.so_far
+          ∙ ap (λ (k : ℕ). set (placed o at (replicate i 0)) (at + k) 0) (sym (length-replicate i 0))
+          ∙ placed_snoc o (replicate i 0) at 0 (simp length-replicate (omega arith))
+          ∙ ap (placed o at) (replicate-append-replicate i 1 0);
     }
 
 pub returns : goal.returns

@@ -1,5 +1,5 @@
 -- `words::sum`: one more word.
-use Rattle.std.proofs.Common.{◌≡◌, ℕ, ◌+◌, ◌%◌, refl, ap, ◌∙◌, arith}
+use Rattle.std.proofs.Common.{ℕ, ◌+◌, ◌%◌, refl, ap, ◌∙◌, arith}
 use Rattle.words.specs.Words.{word_sum}
 use Rattle.words.proofs.Words.{word_sum_next}
 use Rattle.words.proofs.sum.Goals as goal

@@ -1,0 +1,13 @@
+-- `block_output::put_last_word`: what is put is the number that added to the sum gives zero.
+use Rattle.std.proofs.Common.{ℕ, ◌-◌, ◌%◌, ap, ◌∙◌, arith}
+use Rattle.words.specs.Bytes.{placed, le4}
+use Rattle.block_rules.specs.Layouts.{last_word}
+use Rattle.block_output.proofs.Blocks.{negate}
+use Rattle.block_output.proofs.put_last_word.Goals as goal
+
+pub returns : goal.returns
+unfolding last_word
+returns c =
+    c.put.ensures ∙ ap (λ (n : ℕ). placed c.args.out.now 508 (le4 n))
+    (negate c.wrapping_sub_u32.result c.sum-sum.result (omega arith) (omega arith) c.wrapping_sub_u32.ensures.value
+    ∙ ap (λ (n : ℕ). (4294967296 - n) % 4294967296) c.sum-sum.ensures)

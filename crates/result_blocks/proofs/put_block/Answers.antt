@@ -1,0 +1,81 @@
+-- `result_blocks::put_block`: what is read is the record of the block, and what is written and added is of that record.
+use Rattle.std.proofs.Common.{◌≡◌, ℕ, ◌+◌, ◌-◌, ◌*◌, List, length, take, drop, ap, ap₂, subst, ◌∙◌, arith, length-drop}
+use lib.Seq.{length-take-le}
+use Rattle.inputs.specs.declared.Contaminant.{Contaminant}
+use Rattle.guideline_rules.specs.declared.SideGuidelines.{SideGuidelines}
+use Rattle.words.specs.Bytes.{over}
+use Rattle.block_rules.specs.Layouts.{result_block}
+use Rattle.sums.specs.State.{NextRuns}
+use Rattle.result_blocks.proofs.OneBlock.{read_is, read_ok, block_is, block_wide, risk_printable, hazard_printable, guideline_is, shares_fit, one_more}
+use Rattle.result_blocks.proofs.put_block.Goals as goal
+
+pub overflow_mul-at : goal.overflow_mul-at
+overflow_mul-at c = omega (arith, c.requires.0.most)
+
+pub overflow_add-from : goal.overflow_add-from
+overflow_add-from c = omega (arith, c.requires.0.most)
+
+pub overflow_add-to : goal.overflow_add-to
+overflow_add-to c = omega (arith, c.requires.0.most)
+
+pub slice_bounds-get_contaminant-end : goal.slice_bounds-get_contaminant-end
+slice_bounds-get_contaminant-end c = omega (arith, c.requires.0.long)
+
+pub get_contaminant-r-requires : goal.get_contaminant-r-requires
+get_contaminant-r-requires c =
+    let at = 512 * c.args.place in
+    let rest = drop (at + 4) c.args.site.now in
+    let n : length (take (at + 508 - (at + 4)) rest) ≡ at + 508 - (at + 4) = length-take-le _ rest (simp length-drop (omega (arith, c.requires.0.long))) in
+    omega (arith, n)
+
+pub work-w-requires : goal.work-w-requires
+work-w-requires c =
+    let p = c.requires.0 in
+    let read = read_ok c.args.site.now c.args.place p.ok c.get_contaminant-r.ensures in
+    record { ready = p.ready; passed = p.passed; contaminant = read.fits }
+
+pub columns_of-g-requires : goal.columns_of-g-requires
+columns_of-g-requires c =
+    let p = c.requires.0 in
+    let read = read_ok c.args.site.now c.args.place p.ok c.get_contaminant-r.ensures in
+    block_wide p.ready p.passed read c.work-w.ensures
+
+pub decimals-risk-requires : goal.decimals-risk-requires
+decimals-risk-requires c =
+    let p = c.requires.0 in
+    let read = read_ok c.args.site.now c.args.place p.ok c.get_contaminant-r.ensures in
+    risk_printable p.ready p.passed read c.work-w.ensures c.columns_of-g.ensures.0 c.columns_of-g.ensures.1
+
+pub decimals-hazard-requires : goal.decimals-hazard-requires
+decimals-hazard-requires c =
+    let p = c.requires.0 in
+    let read = read_ok c.args.site.now c.args.place p.ok c.get_contaminant-r.ensures in
+    hazard_printable p.ready p.passed read c.work-w.ensures c.columns_of-g.ensures.0 c.columns_of-g.ensures.1
+
+pub add_shares-requires : goal.add_shares-requires
+add_shares-requires c =
+    let p = c.requires.0 in
+    let read = read_ok c.args.site.now c.args.place p.ok c.get_contaminant-r.ensures in
+    let g = c.columns_of-g.ensures in
+    shares_fit p.ready p.passed read c.work-w.ensures g.0 g.1 (omega (arith, p.most)) p.runs
+
+pub returns : goal.returns
+returns c =
+    let site = c.args.site.now in
+    let place = c.args.place in
+    let p = c.args.p in
+    let out = c.args.out.now in
+    let pre = c.requires.0 in
+    let r = c.get_contaminant-r.result in
+    let read = read_ok site place pre.ok c.get_contaminant-r.ensures in
+    let k = c.work-w.ensures in
+    let u = c.columns_of-g.ensures.0 in
+    let v = c.columns_of-g.ensures.1 in
+    let q : ◌≡◌ {A = Contaminant} r _ = read_is site place r c.get_contaminant-r.ensures in
+    let g = guideline_is pre.ready pre.passed read k u v in
+    let m = one_more pre.ready pre.passed read k u v (omega (arith, pre.most)) pre.runs c.add_shares.ensures in (
+      subst (λ (x : Contaminant). NextRuns p x place c.args.x c.add_shares.result) q m,
+      c.put_result.ensures ∙
+          ap₂ (λ (x y : SideGuidelines). over (result_block place r.class r.id x y) out) c.decimals-risk.ensures c.decimals-hazard.ensures ∙
+          ap (λ (b : List ℕ). over b out) (block_is p.scenario p.medium site place r _ _ q g),
+    )

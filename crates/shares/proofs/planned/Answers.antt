@@ -1,0 +1,30 @@
+-- `shares::planned`: the numbers of the scenario, and what is prepared from them in both directions.
+use Rattle.std.proofs.Common.{refl, sym, subst}
+use Rattle.rounding.specs.declared.Direction.TheVariants.{Down, Up}
+use Rattle.factors.specs.declared.numbers.Factors.{Factors}
+use Rattle.factors.specs.Stands.{FactorsFor}
+use Rattle.factors.specs.Prepared.{PreparedFor}
+use Rattle.factors.proofs.StandsLaws.{all_own}
+use Rattle.shares.proofs.planned.Goals as goal
+
+pub prepare-requires : goal.prepare-requires
+prepare-requires c = all_own c.scenario_numbers-f.ensures
+
+pub prepare-requires-2 : goal.prepare-requires-2
+prepare-requires-2 c = all_own c.scenario_numbers-f.ensures
+
+pub returns : goal.returns
+returns c =
+    let same = sym c.prepare.ensures.same in
+    record {
+      ready = record {
+        valid = c.requires.0;
+        media = c.requires.1;
+        factors = subst (FactorsFor c.args.s) same c.scenario_numbers-f.ensures;
+        up = subst (λ (f : Factors). PreparedFor Up f c.prepare.result) same c.prepare.ensures;
+        down = subst (λ (f : Factors). PreparedFor Down f c.prepare-2.result) same c.prepare-2.ensures;
+      };
+      scenario = refl;
+      media = refl;
+      refused = refl;
+    }
