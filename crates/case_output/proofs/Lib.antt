@@ -1,2 +1,3 @@
--- One byte more of an output's weight.
+-- One byte more of an output's weight, and texts written one after another.
 pub mod Weights
+pub mod Written

@@ -4,14 +4,14 @@ use Rattle.std.specs.Fmt.{decimal, signed_decimal}
 use Rattle.decimal.specs.declared.Decimal.{Decimal}
 
 -- a space, then the digits
-abbrev pub next_text : ℕ → List ℕ
+unfoldable pub next_text : ℕ → List ℕ
 next_text n = 32 ∷ decimal n
 
 -- a space, m, a space and e
-abbrev pub pair_text : Decimal → List ℕ
+unfoldable pub pair_text : Decimal → List ℕ
 pair_text d = next_text d.m ++ 32 ∷ signed_decimal d.e
 
-abbrev pub four_text : Decimal → Decimal → Decimal → Decimal → List ℕ
+unfoldable pub four_text : Decimal → Decimal → Decimal → Decimal → List ℕ
 four_text a b c d = pair_text a ++ pair_text b ++ pair_text c ++ pair_text d
 
 -- each byte times its place, where the first one stands at place k

@@ -10,6 +10,7 @@ use decimal::Decimal;
 use std::io::{self, Write};
 
 // Prints a space and a number.
+#[tactic(auto, unfolding(crate::specs::Printed::next_text))]
 pub fn print_next<W: Write>(output: &mut W, n: u32) -> io::Result<()>
     ensures { OnOk result (Appends (W.contents output.old) (W.contents output.new) (next_text n)) }
 {
@@ -24,6 +25,7 @@ fn print_signed<W: Write>(output: &mut W, e: i32) -> io::Result<()>
 }
 
 // Prints a space, m, a space and e.
+#[tactic(auto, unfolding(crate::specs::Printed::pair_text))]
 pub fn print_pair<W: Write>(output: &mut W, d: Decimal) -> io::Result<()>
     ensures { OnOk result (Appends (W.contents output.old) (W.contents output.new) (pair_text d)) }
 {
@@ -33,6 +35,7 @@ pub fn print_pair<W: Write>(output: &mut W, d: Decimal) -> io::Result<()>
 }
 
 // Prints four decimals.
+#[tactic(auto, unfolding(crate::specs::Printed::four_text))]
 pub fn print_four<W: Write>(
     output: &mut W,
     a: Decimal,

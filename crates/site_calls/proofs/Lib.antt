@@ -1,2 +1,0 @@
--- Texts written one after another.
-pub mod Written

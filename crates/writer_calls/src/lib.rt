@@ -1,7 +1,10 @@
 // The calls of the program call_cases that write a block: each is lent some bytes, and what it left there is printed, weighed.
 #![tactic(auto)]
 
-ghost use Rattle.std.specs.Prelude.{◌≤◌, length};
+ghost use Rattle.std.specs.Prelude.{◌≤◌, ◌++◌, length, OnOk};
+ghost use Rattle.std.specs.Io.KnownBytes.{Appends};
+ghost use Rattle.outcome.specs.Outcome.{number_of};
+ghost use Rattle.case_output.specs.Printed.{next_text, weight};
 
 use call_records::{read_contaminant, read_header};
 use case_output::{print_next, weigh};
@@ -11,9 +14,9 @@ use std::io::{self, Read, Write};
 // Prints what a writer sends back and leaves: refusal, block, and the weighed output.
 fn print_written<W: Write>(output: &mut W, a: Answer, out: &[u8]) -> io::Result<()>
     requires { length out.now ≤ 1024 }
+    ensures { OnOk result (Appends (W.contents output.old) (W.contents output.new) (next_text (number_of a.refusal) ++ next_text a.block ++ next_text (weight out.now))) }
 {
-    let refusal = a.refusal;
-    print_next(output, outcome::number(refusal))?;
+    print_next(output, outcome::number(a.refusal))?;
     print_next(output, a.block)?;
     print_next(output, weigh(out))
 }
@@ -22,7 +25,8 @@ fn print_written<W: Write>(output: &mut W, a: Answer, out: &[u8]) -> io::Result<
 fn run_header<R: Read, W: Write>(input: &mut R, output: &mut W, out: &mut [u8]) -> io::Result<()>
     requires { length out.old ≤ 1024 }
 {
-    let a = writers::write_header(out, read_header(input)?);
+    let h = read_header(input)?;
+    let a = writers::write_header(out, h);
     print_written(output, a, out)
 }
 
@@ -35,7 +39,8 @@ fn run_contaminant<R: Read, W: Write>(
 ) -> io::Result<()>
     requires { length out.old ≤ 1024 }
 {
-    let a = writers::write_contaminant(out, place, read_contaminant(input)?);
+    let r = read_contaminant(input)?;
+    let a = writers::write_contaminant(out, place, r);
     print_written(output, a, out)
 }
 

@@ -6,7 +6,7 @@ use Rattle.listing_rules.specs.Listing.{listing_of}
 use Rattle.site_rules.specs.Site.{site_answer}
 use Rattle.site_rules.specs.Results.{site_left}
 use Rattle.site_calls.specs.Lines.{answer_line, output_line}
-use Rattle.site_calls.proofs.Written.{three_written}
+use Rattle.case_output.proofs.Written.{three_written}
 use Rattle.site_calls.proofs.run_case.Goals as goal
 
 pub slice_bounds-text-end : goal.slice_bounds-text-end

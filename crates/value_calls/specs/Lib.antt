@@ -1,0 +1,2 @@
+-- What is printed of what the calls send back.
+pub mod Sent
