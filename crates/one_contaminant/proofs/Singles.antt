@@ -14,7 +14,7 @@ use Rattle.decimal.specs.Decimal.{zero_of}
 use Rattle.outcome.specs.declared.Answer.{Answer}
 use Rattle.outcome.specs.Outcome.{number_of, answer}
 use Rattle.inputs.specs.declared.Contaminant.{Contaminant}
-use Rattle.inputs.specs.Rules.{scenario_fits, lacks_factor, contaminant_fits, scenario_refusal}
+use Rattle.inputs.specs.Rules.{lacks_factor, contaminant_fits, scenario_refusal}
 use Rattle.words.specs.Bytes.{over}
 use Rattle.words.proofs.Written.{over_length, over_all, lent_part}
 use Rattle.fields.specs.Fields.{decimals_at}

@@ -1,5 +1,5 @@
 -- `list_sums::sums_of_list`: a step takes the first of the records that are left.
-use Rattle.std.proofs.Common.{◌≡◌, ℕ, ◌+◌, ◌<◌, List, [], ◌∷◌, length, get_or, drop, refl, sym, ap, subst, ◌∙◌, add-one, arith}
+use Rattle.std.proofs.Common.{◌≡◌, ℕ, ◌+◌, ◌<◌, List, ◌∷◌, length, get_or, drop, refl, sym, ap, subst, ◌∙◌, add-one}
 use Rattle.std.proofs.Math.Seq.{drop-cons}
 use lib.ListN.{drop_of_length-le}
 use Rattle.inputs.specs.declared.Contaminant.{Contaminant}

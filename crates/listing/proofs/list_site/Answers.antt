@@ -10,9 +10,10 @@ returns-then-text-lt24576 c =
 
 pub put_listing-length-requires : goal.put_listing-length-requires
 put_listing-length-requires c =
-    let a = c.args in
-    (answered a.site.now a.results.now c.evaluate-answer.result _ (λ i. omega (arith, c.type_inv.site i)) c.evaluate-answer.ensures.0 c.evaluate-answer.ensures.1,
-    c.if-text-lt24576.false)
+    let a = c.args in (
+      answered a.site.now a.results.now c.evaluate-answer.result _ (λ i. omega (arith, c.type_inv.site i)) c.evaluate-answer.ensures.0 c.evaluate-answer.ensures.1,
+      c.if-text-lt24576.false,
+    )
 
 pub returns : goal.returns
 returns c =
