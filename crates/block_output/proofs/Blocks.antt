@@ -1,5 +1,5 @@
 -- The steps of a writer of blocks: fields one behind the other, then the last word. Assumes nothing.
-use Rattle.std.proofs.Common.{◌≡◌, ℕ, ◌+◌, ◌-◌, ◌*◌, ◌%◌, ◌<◌, ◌≤◌, List, [], ◌∷◌, ◌++◌, length, drop, sym, refl, ap, ◌∙◌, append_assoc, arith}
+use Rattle.std.proofs.Common.{◌≡◌, ℕ, ◌+◌, ◌-◌, ◌*◌, ◌%◌, ◌<◌, List, ◌++◌, length, drop, sym, ap, ◌∙◌, append_assoc, arith}
 use Rattle.words.specs.Bytes.{le4, placed, over}
 use Rattle.words.proofs.Words.{le4_length, word_sum_front}
 use Rattle.words.proofs.Written.{Wrote, wrote_next}

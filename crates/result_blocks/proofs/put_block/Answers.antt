@@ -1,6 +1,5 @@
 -- `result_blocks::put_block`: what is read is the record of the block, and what is written and added is of that record.
-use Rattle.std.proofs.Common.{◌≡◌, ℕ, ◌+◌, ◌-◌, ◌*◌, List, length, take, drop, ap, ap₂, subst, ◌∙◌, arith, length-drop}
-use lib.Seq.{length-take-le}
+use Rattle.std.proofs.Common.{◌≡◌, ℕ, List, ap, ap₂, subst, ◌∙◌, arith}
 use Rattle.inputs.specs.declared.Contaminant.{Contaminant}
 use Rattle.guideline_rules.specs.declared.SideGuidelines.{SideGuidelines}
 use Rattle.words.specs.Bytes.{over}
@@ -8,25 +7,6 @@ use Rattle.block_rules.specs.Layouts.{result_block}
 use Rattle.sums.specs.State.{NextRuns}
 use Rattle.result_blocks.proofs.OneBlock.{read_is, read_ok, block_is, block_wide, risk_printable, hazard_printable, guideline_is, shares_fit, one_more}
 use Rattle.result_blocks.proofs.put_block.Goals as goal
-
-pub overflow_mul-at : goal.overflow_mul-at
-overflow_mul-at c = omega (arith, c.requires.0.most)
-
-pub overflow_add-from : goal.overflow_add-from
-overflow_add-from c = omega (arith, c.requires.0.most)
-
-pub overflow_add-to : goal.overflow_add-to
-overflow_add-to c = omega (arith, c.requires.0.most)
-
-pub slice_bounds-get_contaminant-end : goal.slice_bounds-get_contaminant-end
-slice_bounds-get_contaminant-end c = omega (arith, c.requires.0.long)
-
-pub get_contaminant-r-requires : goal.get_contaminant-r-requires
-get_contaminant-r-requires c =
-    let at = 512 * c.args.place in
-    let rest = drop (at + 4) c.args.site.now in
-    let n : length (take (at + 508 - (at + 4)) rest) ≡ at + 508 - (at + 4) = length-take-le _ rest (simp length-drop (omega (arith, c.requires.0.long))) in
-    omega (arith, n)
 
 pub work-w-requires : goal.work-w-requires
 work-w-requires c =

@@ -1,5 +1,5 @@
 -- `result_blocks::put_blocks`: each part of the output comes back with its block, and the sums go one record on.
-use Rattle.std.proofs.Common.{◌≡◌, ℕ, ◌+◌, ◌-◌, ◌*◌, ◌≤◌, [], ◌++◌, length, take, drop, refl, ap, ◌∙◌, arith, length-drop}
+use Rattle.std.proofs.Common.{◌≡◌, ℕ, ◌+◌, ◌-◌, ◌*◌, [], ◌++◌, length, take, drop, refl, ap, ◌∙◌, arith, length-drop}
 use lib.Seq.{length-take-le}
 use Rattle.words.specs.Bytes.{over}
 use Rattle.site_rules.specs.Results.{results_to}
@@ -14,21 +14,12 @@ loop-k-init c =
       written = none_written a.p.scenario a.p.medium a.site.now a.out.now (omega (arith, c.requires.1));
     }
 
-pub overflow_add-place : goal.overflow_add-place
-overflow_add-place c = omega (arith, c.loop-k-test.true, c.requires.0.most)
-
-pub overflow_mul-a : goal.overflow_mul-a
-overflow_mul-a c = omega (arith, c.loop-k-test.true, c.requires.0.most)
-
-pub overflow_add-b : goal.overflow_add-b
-overflow_add-b c = omega (arith, c.loop-k-test.true, c.requires.0.most)
-
 pub slice_bounds-put_block-end : goal.slice_bounds-put_block-end
 slice_bounds-put_block-end c =
     let a = c.args in
     let m : length c.loop-k.out ≡ length a.out.now =
-        out_long a.p.scenario a.p.medium a.site.now a.out.now c.loop-k.out [] c.loop-k.k
-        (omega (arith, c.loop-k-test.true, c.requires.1)) c.loop-k.invariant.written in
+    out_long a.p.scenario a.p.medium a.site.now a.out.now c.loop-k.out [] c.loop-k.k
+    (omega (arith, c.loop-k-test.true, c.requires.1)) c.loop-k.invariant.written in
     omega (arith, m, c.requires.1, c.loop-k-test.true)
 
 pub put_block-x-requires : goal.put_block-x-requires
@@ -38,7 +29,7 @@ put_block-x-requires c =
     let below = c.loop-k-test.true in
     let args = c.args in
     let m : length c.loop-k.out ≡ length args.out.now =
-        out_long args.p.scenario args.p.medium args.site.now args.out.now c.loop-k.out [] k (omega (arith, below, c.requires.1)) c.loop-k.invariant.written in
+    out_long args.p.scenario args.p.medium args.site.now args.out.now c.loop-k.out [] k (omega (arith, below, c.requires.1)) c.loop-k.invariant.written in
     let a : ℕ = 512 * (k + 1) in
     let rest = drop a c.loop-k.out in
     let q : length (take (a + 512 - a) rest) ≡ a + 512 - a = length-take-le (a + 512 - a) rest (simp length-drop (omega (arith, m, c.requires.1, below))) in (
@@ -52,9 +43,6 @@ put_block-x-requires c =
       },
       omega (arith, q),
     )
-
-pub overflow_add-k : goal.overflow_add-k
-overflow_add-k c = omega (arith, c.loop-k-test.true, c.requires.0.most)
 
 pub loop-k-preserved : goal.loop-k-preserved
 loop-k-preserved c =

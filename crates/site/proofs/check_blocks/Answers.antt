@@ -12,12 +12,6 @@ loop-k-init c =
     let z : a.count - 0 ≡ a.count = omega arith in
     record { upto = omega arith; same = ap (λ (j : ℕ). check_blocks a.s a.medium a.site.now j 1 0) z }
 
-pub overflow_add-place : goal.overflow_add-place
-overflow_add-place c = omega (arith, c.loop-k-test.true, c.requires.most)
-
-pub overflow_mul-at : goal.overflow_mul-at
-overflow_mul-at c = omega (arith, c.loop-k-test.true, c.requires.most)
-
 pub returns-in-Refused : goal.returns-in-Refused
 unfolding block_at
 returns-in-Refused c =
@@ -40,9 +34,6 @@ returns-then-not-accepted c =
     let refused = sym c.accepted.ensures ∙ c.if-not-accepted.true in
     sym (turn_record a.s a.medium a.site.now a.count c.loop-k.k c.loop-k.previous c.loop-k-test.true c.in-Found.r (sym c.in-Found.ensures)
     c.record_refusal-own.result c.record_refusal-own.ensures refused) ∙ c.loop-k.invariant.same
-
-pub overflow_add-k : goal.overflow_add-k
-overflow_add-k c = omega (arith, c.loop-k-test.true, c.requires.most)
 
 pub loop-k-preserved : goal.loop-k-preserved
 unfolding block_at

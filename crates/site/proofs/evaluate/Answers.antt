@@ -1,5 +1,5 @@
 -- `site::evaluate`: a refusal of the length or the header leaves the output as it was; past them the blocks are evaluated.
-use Rattle.std.proofs.Common.{◌≡◌, ◌/◌, true, length, sym, ◌∙◌, arith}
+use Rattle.std.proofs.Common.{◌/◌, length, sym, ◌∙◌, arith}
 use Rattle.block_rules.proofs.Found.{header_refused}
 use Rattle.site_rules.specs.Blocks.{block_at}
 use Rattle.site_rules.proofs.RightLength.{right_length}
