@@ -1,5 +1,5 @@
 #!/usr/bin/env python3
-"""Respells this repository's own names after /opt/rattle/port/port.py: once, at the top of the repository.
+"""Respells this repository's own names after port.py of the kit: once, at the top of the repository.
 
 usage: python3 tools/respell.py [FOLDER]
 
