@@ -1,6 +1,6 @@
 /* gv.h: guideline values for contaminated soil and water, as a static library.
 
-   Link libgv.a, which `rt staticlib gv` writes to target/staticlib/. Every function ends, reads and writes only inside
+   Link libgv.a, which `bash tools/library.sh` writes to target/staticlib/. Every function ends, reads and writes only inside
    the bytes that it is lent, and refuses what breaks a rule: there is nothing to set up and nothing to free. What each
    returns and leaves in each byte is proved; docs/FORMAT.md describes the blocks and the refusals. Bytes are lent as a
    pointer and a length. The structs below are bytes 8 to 507 of a block on little-endian machines: their size stays the same
