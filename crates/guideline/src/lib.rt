@@ -8,12 +8,11 @@ ghost use Rattle.rounding.specs.Operations.{quotient_of};
 ghost use Rattle.terms.specs.Side.{Wide, WideSide};
 ghost use Rattle.guideline.specs.Column.{ColumnFor, ranged_of, column_ranged, PrintableColumn, column_decimals};
 ghost use Rattle.guideline_rules.proofs.Accepted.{Accepted};
-ghost use Rattle.guideline_rules.specs.Guideline.{zero_side, refused as refused_of, worked_out, guideline_of};
+ghost use Rattle.guideline_rules.specs.Guideline.{worked_out, guideline_of};
 
-use decimal::Decimal;
-use guideline_rules::{GuidelineAnswer, SideGuidelines};
+use guideline_rules::{Guidelines, SideGuidelines};
 use inputs::{Contaminant, Scenario, both, contaminant_fits, scenario_refusal};
-use outcome::{Refusal, accepted};
+use outcome::{Refusal, Refused, in_block};
 use presence::record_refusal;
 use rounding::{BIAS, Direction, Number};
 use terms::pathways::{PathwayTerms, Terms};
@@ -105,33 +104,8 @@ pub fn decimals(c: Column) -> SideGuidelines
     }
 }
 
-// Zero decimals.
-fn zero_side() -> SideGuidelines
-    ensures { result ≡ zero_side }
-{
-    let zero = Decimal { m: 0, e: 0 };
-    SideGuidelines {
-        first: zero,
-        second: zero,
-        third: zero,
-        total: zero,
-    }
-}
-
-// A refusal with its block and zero decimals.
-pub fn refused(refusal: Refusal, block: u32) -> GuidelineAnswer
-    ensures { result ≡ refused_of refusal block }
-{
-    GuidelineAnswer {
-        refusal,
-        block,
-        risk: zero_side(),
-        hazard: zero_side(),
-    }
-}
-
 // The answer for inputs that keep their rules.
-fn worked_out(s: Scenario, medium: u32, r: Contaminant) -> GuidelineAnswer
+fn worked_out(s: Scenario, medium: u32, r: Contaminant) -> Result<Guidelines, Refused>
     requires { Accepted s medium r }
     ensures { result ≡ worked_out s medium r }
 {
@@ -146,31 +120,23 @@ fn worked_out(s: Scenario, medium: u32, r: Contaminant) -> GuidelineAnswer
         column_ranged(side.risk, risk),
         column_ranged(side.hazard, hazard),
     ) {
-        return GuidelineAnswer {
-            refusal: Refusal::Accepted,
-            block: 0,
+        return Ok(Guidelines {
             risk: decimals(risk),
             hazard: decimals(hazard),
-        };
+        });
     }
-    refused(Refusal::Range, 1)
+    Err(Refusal::Range.in_block(1))
 }
 
 // The eight guidelines of a contaminant under a scenario in a medium (1 soil, 2 water), or a refusal: of the scenario
 // in block 0; of the contaminant in block 1, first 4, then those of its own tests.
-pub fn guideline(s: Scenario, medium: u32, r: Contaminant) -> GuidelineAnswer
+pub fn guideline(s: Scenario, medium: u32, r: Contaminant) -> Result<Guidelines, Refused>
     ensures { result ≡ guideline_of s medium r }
 {
-    let first = scenario_refusal(s, medium);
-    if !accepted(first) {
-        return refused(first, 0);
-    }
+    in_block(scenario_refusal(s, medium), 0)?;
     if !contaminant_fits(r) {
-        return refused(Refusal::Field, 1);
+        return Err(Refusal::Field.in_block(1));
     }
-    let own = record_refusal(s, medium, r);
-    if !accepted(own) {
-        return refused(own, 1);
-    }
+    in_block(record_refusal(s, medium, r), 1)?;
     worked_out(s, medium, r)
 }

@@ -1,5 +1,5 @@
 -- Inputs that passed conditions 4 and 6: what they keep, and that their values stand for their exact fractions. Assumes nothing.
-use mathlib.Core.Path.{◌≡◌, refl}
+use mathlib.Core.Path.{◌≡◌, refl, sym}
 use mathlib.Core.Bool.{Bool, true, false, ◌&&◌, not}
 use Prim.Native.Nat.{ℕ}
 use lib.Dec.{eqb}
@@ -16,9 +16,10 @@ use Rattle.formulas.specs.Term.{constants, inputs_of, values_for}
 use Rattle.formulas.specs.ExactTerm.{exact_for}
 use Rattle.formulas.proofs.TermBounds.{Represents}
 use Rattle.formulas.proofs.ValueBounds.{values_stand}
-use native.Mathlib.Omega.{arith}
 use Rattle.outcome.specs.declared.Refusal.TheVariants.{Field, Factor}
-use Rattle.outcome.specs.Outcome.{number_of, test, refused_by}
+use Rattle.outcome.specs.Outcome.{test, refused_by}
+use Rattle.outcome.proofs.Numbers.{not_both}
+use Rattle.std.specs.Prelude.{Ok}
 
 -- inputs that passed conditions 4 and 6
 pub record Accepted (s : Scenario) (medium : ℕ) (r : Contaminant) : Type 0 where
@@ -73,11 +74,11 @@ pub record Fits (s : Scenario) (medium : ℕ) : Type 0 where
   pub fits : scenario_fits s medium ≡ true
   pub factors : lacks_factor s ≡ false
 
-pub scenario_passed : (s : Scenario) (medium : ℕ) → number_of (scenario_refusal s medium) ≡ 0 → Fits s medium
+pub scenario_passed : (s : Scenario) (medium : ℕ) → scenario_refusal s medium ≡ Ok tt → Fits s medium
 unfolding scenario_refusal
 scenario_passed s medium = cases (scenario_fits s medium) (lacks_factor s) refl refl
   where
-    cases : (a b : Bool) → scenario_fits s medium ≡ a → lacks_factor s ≡ b → number_of (refused_by (test Field (not a) ∷ test Factor b ∷ [])) ≡ 0 → Fits s medium
+    cases : (a b : Bool) → scenario_fits s medium ≡ a → lacks_factor s ≡ b → refused_by (test Field (not a) ∷ test Factor b ∷ []) ≡ Ok tt → Fits s medium
     cases true false e f h = record { fits = e; factors = f }
-    cases true true e f h = absurd (omega (arith, h))
-    cases false b e f h = absurd (omega (arith, h))
+    cases true true e f h = absurd (not_both (sym h))
+    cases false b e f h = absurd (not_both (sym h))

@@ -6,7 +6,7 @@ use Prim.Native.Nat.{ℕ, zero, suc, ◌+◌, ◌*◌, ◌≤◌, ◌<◌}
 use native.Mathlib.Omega.{arith}
 use lib.Dec.{eqb, lit≤}
 use lib.ListN.{get_or}
-use borrow.Author.Tests.{eq-eqb, ne_eqb, eqb-true, eqb-false}
+use borrow.Author.Tests.{eq-eqb, ne_eqb}
 use Rattle.rounding.specs.declared.Direction.{Direction}
 use Rattle.rounding.specs.declared.Direction.TheVariants.{Down, Up}
 use Rattle.rounding.specs.Within.{Within}
@@ -20,8 +20,11 @@ use Rattle.decimal.proofs.Approximation.{Approx, Fair, approx_div, fair_most, fa
 use Rattle.decimal.proofs.Approximation.Fair.{none, some}
 use Rattle.outcome.specs.declared.Refusal.{Refusal}
 use Rattle.outcome.specs.declared.Refusal.TheVariants.{Field}
-use Rattle.outcome.specs.Outcome.{number_of}
-use Rattle.outcome.proofs.Tests.{refused_number}
+use Rattle.std.specs.Prelude.{Result, Ok, Err, ⊤}
+use Rattle.outcome.specs.declared.Refused.{Refused}
+use Rattle.outcome.specs.Outcome.{Test, refusal_number, refused, refused_by, number_of}
+use Rattle.outcome.proofs.Numbers.{refusal_numbered}
+use Rattle.outcome.proofs.Tests.{all_numbers, refused_number, passing_other}
 use Rattle.inputs.specs.declared.Scenario.{Scenario}
 use Rattle.inputs.specs.declared.Contaminant.{Contaminant}
 use Rattle.inputs.specs.Rules.{scenario_tests, scenario_refusal, contaminant_fits}
@@ -34,10 +37,10 @@ use Rattle.decimal.proofs.Value.{Value, value_inside, fair_value}
 use Rattle.decimal.proofs.Value.Value.{absent, known}
 use Rattle.formulas.proofs.Sound.{table_sound, sound_at_lem, none_sound, three_pathways}
 use Rattle.formulas.proofs.TermBounds.{Represents, term_fair, term_present}
-use Rattle.guideline_rules.specs.declared.GuidelineAnswer.{GuidelineAnswer}
+use Rattle.guideline_rules.specs.declared.Guidelines.{Guidelines}
 use Rattle.guideline_rules.proofs.Accepted.{Accepted, values_of_lem, accepted_inputs, scenario_passed}
 use Rattle.guideline_rules.specs.Pathway.{record_tests, record_refusal}
-use Rattle.guideline_rules.specs.Guideline.{side_of, target_value, guidelines_of, guideline_ranged, refused, accepted, unless_refused, worked_out, guideline_of}
+use Rattle.guideline_rules.specs.Guideline.{side_of, target_value, guidelines_of, guideline_ranged, accepted, guidelines_sent, worked_out, guideline_of}
 use Rattle.guideline_rules.specs.Promise.{target_of, side_at, pathway_at, Kept, Promised}
 use Rattle.guideline_rules.proofs.WorkedOut.{total_bounds, present_total}
 
@@ -148,34 +151,29 @@ module _ (s : Scenario) (medium : ℕ) (r : Contaminant) (a : Accepted s medium 
   worked = rw (ranged Risk, ranged Hazard)
 
 -- ---- from the answer back to the conditions: an answer of number k, which is no refusal of the tests before, has passed them
-unless_passed : (n : Refusal) (block : ℕ) (a : GuidelineAnswer) (k : ℕ) → (number_of n ≡ k → number_of n ≡ 0) →
-    number_of (unless_refused n block a).refusal ≡ k → (number_of n ≡ 0) × (number_of a.refusal ≡ k)
-unless_passed n block a k h = cases (eqb (number_of n) 0) refl
-  where
-    cases : (b : Bool) → eqb (number_of n) 0 ≡ b → number_of (cond b a (refused n block)).refusal ≡ k → (number_of n ≡ 0) × (number_of a.refusal ≡ k)
-    cases true z e = (eqb-true (number_of n) 0 z, e)
-    cases false z e = absurd (eqb-false (number_of n) 0 z (h e))
+field_passed : (b : Bool) (a : Result Guidelines Refused) {k : ℕ} → (4 ≡ k → ⊥) → number_of (cond b a (refused Field 1)) ≡ k → (b ≡ true) × (number_of a ≡ k)
+field_passed true a h e = (refl, e)
+field_passed false a h e = absurd (h e)
 
-field_passed : (b : Bool) (a : GuidelineAnswer) (k : ℕ) → (4 ≡ k → ⊥) → number_of (cond b a (refused Field 1)).refusal ≡ k → (b ≡ true) × (number_of a.refusal ≡ k)
-field_passed true a k h e = (refl, e)
-field_passed false a k h e = absurd (h e)
+-- tests that send no k back
+NotSent : ℕ → Result ⊤ Refusal → Type 0
+NotSent k x = (n : Refusal) → x ≡ Err n → refusal_number n ≡ k → ⊥
 
 module _ (s : Scenario) (medium : ℕ) (r : Contaminant) where
-  abbrev answer : GuidelineAnswer
+  abbrev answer : Result Guidelines Refused
   answer = guideline_of s medium r
 
   record Passed : Type 0 where
-    scenario : number_of (scenario_refusal s medium) ≡ 0
+    scenario : scenario_refusal s medium ≡ Ok tt
     fits : contaminant_fits r ≡ true
-    pathway : number_of (record_refusal s medium r) ≡ 0
+    pathway : record_refusal s medium r ≡ Ok tt
 
-  conditions : (k : ℕ) → (number_of (scenario_refusal s medium) ≡ k → number_of (scenario_refusal s medium) ≡ 0) → (4 ≡ k → ⊥) →
-      (number_of (record_refusal s medium r) ≡ k → number_of (record_refusal s medium r) ≡ 0) → number_of answer.refusal ≡ k → Passed
-  unfolding guideline_of
-  conditions k h f g e =
-      let a = unless_passed (scenario_refusal s medium) 0 _ k h e in
-      let b = field_passed (contaminant_fits r) _ k f a.1 in
-      let c = unless_passed (record_refusal s medium r) 1 _ k g b.1 in
+  conditions : {k : ℕ} → NotSent k (scenario_refusal s medium) → (4 ≡ k → ⊥) → NotSent k (record_refusal s medium r) → number_of answer ≡ k → Passed
+  unfolding guideline_of NotSent
+  conditions h f g e =
+      let a = passing_other (scenario_refusal s medium) 0 _ h e in
+      let b = field_passed (contaminant_fits r) _ f a.1 in
+      let c = passing_other (record_refusal s medium r) 1 _ g b.1 in
       record { scenario = a.0; fits = b.0; pathway = c.0 }
 
   inputs_of_lem : Passed → Accepted s medium r
@@ -183,50 +181,43 @@ module _ (s : Scenario) (medium : ℕ) (r : Contaminant) where
 
   answer_is : Passed → answer ≡ accepted (guidelines_of s medium r Risk) (guidelines_of s medium r Hazard)
   unfolding guideline_of
-  answer_is p =
-      rw (eq-eqb (number_of (scenario_refusal s medium)) 0 p.scenario, p.fits, eq-eqb (number_of (record_refusal s medium r)) 0 p.pathway)
-      (worked s medium r (inputs_of_lem p))
+  answer_is p = rw (p.scenario, p.fits, p.pathway) (worked s medium r (inputs_of_lem p))
 
   -- REFUSAL 9 does not occur
   abbrev not9 : ℕ → Bool
   not9 n = not (eqb n 9)
 
-  scenario_not_9 : not9 (number_of (scenario_refusal s medium)) ≡ true
-  unfolding scenario_refusal
-  scenario_not_9 = refused_number not9 refl (scenario_tests s medium) refl
+  other : (ts : List Test) → all_numbers not9 ts ≡ true → NotSent 9 (refused_by ts)
+  unfolding NotSent
+  other ts h n e k = absurd (false≢true (sym (ap not (eq-eqb (refusal_number n) 9 k)) ∙ refused_number not9 ts h n e))
 
-  record_not_9 : not9 (number_of (record_refusal s medium r)) ≡ true
-  unfolding record_refusal
-  record_not_9 = refused_number not9 refl (record_tests s medium r) refl
-
-  other : (n : ℕ) → not9 n ≡ true → n ≡ 9 → n ≡ 0
-  other n h e = absurd (false≢true (sym (ap not (eq-eqb n 9 e)) ∙ h))
-
-  pub never_out_of_range : number_of answer.refusal ≡ 9 → ⊥
+  pub never_out_of_range : number_of answer ≡ 9 → ⊥
+  unfolding scenario_refusal record_refusal
   never_out_of_range h =
-      let p = conditions 9 (other _ scenario_not_9) (λ e. omega (arith, e)) (other _ record_not_9) h in
-      omega (arith, sym (ap (λ (g : GuidelineAnswer). number_of g.refusal) (answer_is p)) ∙ h)
+      let p = conditions (other (scenario_tests s medium) refl) (λ e. omega (arith, e)) (other (record_tests s medium r) refl) h in
+      omega (arith, sym (ap number_of (answer_is p)) ∙ h)
 
-  zero_passed : number_of answer.refusal ≡ 0 → Passed
-  zero_passed h = conditions 0 (λ e. e) (λ e. omega (arith, e)) (λ e. e) h
+  zero_passed : number_of answer ≡ 0 → Passed
+  unfolding NotSent
+  zero_passed = conditions (λ n e. (refusal_numbered n).some) (λ e. omega (arith, e)) (λ n e. (refusal_numbered n).some)
 
   -- an accepted answer holds the guidelines of both sides
-  pub accepted_is : number_of answer.refusal ≡ 0 → answer ≡ accepted (guidelines_of s medium r Risk) (guidelines_of s medium r Hazard)
+  pub accepted_is : number_of answer ≡ 0 → answer ≡ accepted (guidelines_of s medium r Risk) (guidelines_of s medium r Hazard)
   accepted_is h = answer_is (zero_passed h)
 
-  side_is : number_of answer.refusal ≡ 0 → (side : Side) → side_at answer side ≡ guidelines_of s medium r side
-  side_is h Risk = ap (λ (g : GuidelineAnswer). g.risk) (accepted_is h)
-  side_is h Hazard = ap (λ (g : GuidelineAnswer). g.hazard) (accepted_is h)
+  side_is : number_of answer ≡ 0 → (side : Side) → side_at (guidelines_sent answer) side ≡ guidelines_of s medium r side
+  side_is h Risk = ap (λ (g : Result Guidelines Refused). (guidelines_sent g).risk) (accepted_is h)
+  side_is h Hazard = ap (λ (g : Result Guidelines Refused). (guidelines_sent g).hazard) (accepted_is h)
 
   -- DEMAND 3, first sentence: the total guideline is above zero exactly when there is a pathway on that side, and then the exact risk or
   -- hazard at it is at most the target and at least the target times (1 - 2/10,000,000)
-  pub promise : number_of answer.refusal ≡ 0 → (side : Side) →
-      Promised (side_at answer side).total (given (target_of s side)) (any_present (exact_for s r) (formulas_for s medium r side))
+  pub promise : number_of answer ≡ 0 → (side : Side) →
+      Promised (side_at (guidelines_sent answer) side).total (given (target_of s side)) (any_present (exact_for s r) (formulas_for s medium r side))
       (exact_total (exact_for s r) (formulas_for s medium r side))
   promise h side = rw (side_is h side) (total_promise s medium r (inputs_of_lem (zero_passed h)) side)
 
   -- the same of each pathway's own guideline
-  pub pathway_promises : number_of answer.refusal ≡ 0 → (side : Side) (n : ℕ) → n < 3 →
-      Promised (pathway_at (side_at answer side) n) (given (target_of s side)) (exact_present (exact_for s r) (get_or (formulas_for s medium r side) n no_formula))
+  pub pathway_promises : number_of answer ≡ 0 → (side : Side) (n : ℕ) → n < 3 →
+      Promised (pathway_at (side_at (guidelines_sent answer) side) n) (given (target_of s side)) (exact_present (exact_for s r) (get_or (formulas_for s medium r side) n no_formula))
       (exact_term (exact_for s r) (get_or (formulas_for s medium r side) n no_formula))
   pathway_promises h side n k = rw (side_is h side) (pathway_promise s medium r (inputs_of_lem (zero_passed h)) side n k)

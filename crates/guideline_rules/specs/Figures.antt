@@ -9,7 +9,7 @@ use Rattle.inputs.specs.BuiltIn.{office}
 use Rattle.formulas.specs.Side.{Risk}
 use Rattle.formulas.specs.Formula.{none}
 use Rattle.formulas.specs.Term.{term_of, formulas_for, values_for}
-use Rattle.guideline_rules.specs.Guideline.{guideline_of}
+use Rattle.guideline_rules.specs.Guideline.{guidelines_sent, guideline_of}
 
 -- a chemical with SFo 1, RfDo 0.02 and a concentration, all else zero
 abbrev pub sample : Decimal → Contaminant
@@ -27,10 +27,10 @@ chemical = sample zero_of
 unfoldable pub office_figures : List Figure
 office_figures =
     (term_of (values_for Up office chemical) Up (get_or (formulas_for office 1 chemical Risk) 0 none) is dec 174727426 (negsuc 14)) ∷
-    ((guideline_of office 1 chemical).risk.first is dec 572319997 (negsuc 7)) ∷
-    ((guideline_of office 1 chemical).risk.total is dec 572319997 (negsuc 7)) ∷
-    ((guideline_of office 1 chemical).hazard.first is dec 408799998 (negsuc 3)) ∷
-    ((guideline_of office 1 chemical).hazard.total is dec 408799998 (negsuc 3)) ∷ []
+    ((guidelines_sent (guideline_of office 1 chemical)).risk.first is dec 572319997 (negsuc 7)) ∷
+    ((guidelines_sent (guideline_of office 1 chemical)).risk.total is dec 572319997 (negsuc 7)) ∷
+    ((guidelines_sent (guideline_of office 1 chemical)).hazard.first is dec 408799998 (negsuc 3)) ∷
+    ((guidelines_sent (guideline_of office 1 chemical)).hazard.total is dec 408799998 (negsuc 3)) ∷ []
 
 abbrev pub marked_figures : List Figure
 marked_figures = figures ++ office_figures

@@ -1,12 +1,12 @@
 -- The single guideline of the specification: its eight decimals, or what is sent back.
-use Rattle.std.specs.Prelude.{Bool, true, cond, ◌&&◌, List, [], ◌∷◌, ℕ, eqb, get_or}
+use Rattle.std.specs.Prelude.{Bool, true, cond, ◌&&◌, List, [], ◌∷◌, ℕ, get_or, Result, Ok, Err}
 use Rattle.rounding.specs.declared.Direction.TheVariants.{Down, Up}
 use Rattle.decimal.specs.declared.Decimal.{Decimal}
 use Rattle.decimal.specs.Exponent.{in_range}
 use Rattle.decimal.specs.Decimal.{zero_of, div_of}
-use Rattle.outcome.specs.declared.Refusal.{Refusal}
-use Rattle.outcome.specs.declared.Refusal.TheVariants.{Accepted, Field, Range}
-use Rattle.outcome.specs.Outcome.{number_of}
+use Rattle.outcome.specs.declared.Refused.{Refused}
+use Rattle.outcome.specs.declared.Refusal.TheVariants.{Field, Range}
+use Rattle.outcome.specs.Outcome.{refused, passing}
 use Rattle.inputs.specs.declared.Scenario.{Scenario}
 use Rattle.inputs.specs.declared.Contaminant.{Contaminant}
 use Rattle.inputs.specs.Rules.{scenario_refusal, contaminant_fits}
@@ -15,7 +15,7 @@ use Rattle.formulas.specs.Formula.{Formula, none, TR, THI}
 use Rattle.formulas.specs.Term.{look, term_of, total_of, formulas_for, values_for}
 use Rattle.guideline_rules.specs.Pathway.{record_refusal}
 use Rattle.guideline_rules.specs.declared.SideGuidelines.{SideGuidelines}
-use Rattle.guideline_rules.specs.declared.GuidelineAnswer.{GuidelineAnswer}
+use Rattle.guideline_rules.specs.declared.Guidelines.{Guidelines}
 
 -- ---- the guidelines of a side over its target: target divided by the upper term, down; the total by the upper term sum
 unfoldable pub side_of : List Decimal → Decimal → List Formula → SideGuidelines
@@ -37,19 +37,16 @@ side_decimals vs target fs =
     ((side_of vs target fs).first ∷ ((side_of vs target fs).second ∷ ((side_of vs target fs).third ∷ ((side_of vs target fs).total ∷ [])))))))
 
 -- ---- what comes back
+abbrev pub accepted : SideGuidelines → SideGuidelines → Result Guidelines Refused
+accepted risk hazard = Ok (record { risk = risk; hazard = hazard })
+
+-- the guidelines of each case: zero decimals on a refusal
 abbrev pub zero_side : SideGuidelines
 zero_side = record { first = zero_of; second = zero_of; third = zero_of; total = zero_of }
 
--- a refusal: number, block and zero decimals
-abbrev pub refused : Refusal → ℕ → GuidelineAnswer
-refused n block = record { refusal = n; block = block; risk = zero_side; hazard = zero_side }
-
-abbrev pub accepted : SideGuidelines → SideGuidelines → GuidelineAnswer
-accepted risk hazard = record { refusal = Accepted; block = 0; risk = risk; hazard = hazard }
-
--- this answer, unless there is a refusal
-abbrev pub unless_refused : Refusal → ℕ → GuidelineAnswer → GuidelineAnswer
-unless_refused n block a = cond (eqb (number_of n) 0) a (refused n block)
+abbrev pub guidelines_sent : Result Guidelines Refused → Guidelines
+guidelines_sent (Ok g) = g
+guidelines_sent (Err r) = record { risk = zero_side; hazard = zero_side }
 
 -- ---- one record in a scenario and a medium
 -- the target of each side, by its name in the table of formulas
@@ -69,14 +66,14 @@ abbrev pub guideline_ranged : Scenario → ℕ → Contaminant → Side → Bool
 guideline_ranged s medium r side = all_ranged (side_decimals (values_for Up s r) (target_value s r side) (formulas_for s medium r side))
 
 -- the guidelines of both sides, or 9 in block 1
-unfoldable pub worked_out : Scenario → ℕ → Contaminant → GuidelineAnswer
+unfoldable pub worked_out : Scenario → ℕ → Contaminant → Result Guidelines Refused
 worked_out s medium r =
     cond (guideline_ranged s medium r Risk && guideline_ranged s medium r Hazard)
     (accepted (guidelines_of s medium r Risk) (guidelines_of s medium r Hazard))
     (refused Range 1)
 
 -- in block 0 the refusals of the scenario; in block 1 of the record 4, the refusals after it, 9
-unfoldable pub guideline_of : Scenario → ℕ → Contaminant → GuidelineAnswer
+unfoldable pub guideline_of : Scenario → ℕ → Contaminant → Result Guidelines Refused
 guideline_of s medium r =
-    unless_refused (scenario_refusal s medium) 0
-    (cond (contaminant_fits r) (unless_refused (record_refusal s medium r) 1 (worked_out s medium r)) (refused Field 1))
+    passing (scenario_refusal s medium) 0
+    (cond (contaminant_fits r) (passing (record_refusal s medium r) 1 (worked_out s medium r)) (refused Field 1))

@@ -1,5 +1,5 @@
 -- What is sent back of a record that keeps its rules and its order, in the order of the tests: 8, no pathway on either side.
-use Rattle.std.specs.Prelude.{Bool, false, not, ◌||◌, List, [], ◌∷◌, ℕ}
+use Rattle.std.specs.Prelude.{Bool, false, not, ◌||◌, List, [], ◌∷◌, ℕ, Result, ⊤}
 use Rattle.rounding.specs.declared.Direction.TheVariants.{Up}
 use Rattle.decimal.specs.declared.Decimal.{Decimal}
 use Rattle.outcome.specs.declared.Refusal.{Refusal}
@@ -27,5 +27,5 @@ either_side s medium r = has_pathway s medium r Risk || has_pathway s medium r H
 abbrev pub record_tests : Scenario → ℕ → Contaminant → List Test
 record_tests s medium r = test Pathway (not (either_side s medium r)) ∷ []
 
-unfoldable pub record_refusal : Scenario → ℕ → Contaminant → Refusal
+unfoldable pub record_refusal : Scenario → ℕ → Contaminant → Result ⊤ Refusal
 record_refusal s medium r = refused_by (record_tests s medium r)

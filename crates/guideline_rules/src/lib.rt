@@ -2,7 +2,6 @@
 #![tactic(auto)]
 
 use decimal::Decimal;
-use outcome::Refusal;
 
 // The guidelines of a side: three pathways and the total; zero where absent.
 #[derive(Clone, Copy)]
@@ -13,11 +12,9 @@ pub struct SideGuidelines {
     pub total: Decimal,
 }
 
-// The answer: accepted with the guidelines of both sides, or a refusal, its block and zeros.
+// Those of both sides: what an accepted call answers.
 #[derive(Clone, Copy)]
-pub struct GuidelineAnswer {
-    pub refusal: Refusal,
-    pub block: u32,
+pub struct Guidelines {
     pub risk: SideGuidelines,
     pub hazard: SideGuidelines,
 }

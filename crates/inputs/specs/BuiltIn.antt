@@ -1,11 +1,12 @@
 -- The three built-in scenarios (docs/SPECIFICATION.md, "Built-in scenarios"), with their pairs (m, e) fixed: a whole number below 1,000 has e = 0,
 -- any other value the digits that are printed there.
-use Rattle.std.specs.Prelude.{cond, [], ℕ, eqb, pos, negsuc}
-use Rattle.outcome.specs.declared.Refusal.TheVariants.{Accepted, Scenario as NoScenario}
+use Rattle.std.specs.Prelude.{cond, [], ℕ, eqb, pos, negsuc, Result, Ok, Err}
+use Rattle.outcome.specs.declared.Refused.{Refused}
+use Rattle.outcome.specs.declared.Refusal.TheVariants.{Scenario as NoScenario}
+use Rattle.outcome.specs.Outcome.{refused}
 use Rattle.decimal.specs.Figures.{dec}
 use Rattle.inputs.specs.declared.Scenario.{Scenario}
 use Rattle.inputs.specs.declared.Contaminant.{Contaminant}
-use Rattle.inputs.specs.declared.BuiltIn.{BuiltIn}
 use Rattle.inputs.specs.Inputs.{scenario_of, contaminant_of}
 
 -- 1 office worker (002, Table 5.1.1)
@@ -40,9 +41,11 @@ blank = scenario_of []
 abbrev pub no_contaminant : Contaminant
 no_contaminant = contaminant_of 0 0 []
 
-abbrev pub accepted : Scenario → BuiltIn
-accepted s = record { refusal = Accepted; block = 0; scenario = s }
+-- refusal 11 in block 0 for any other number
+unfoldable pub built_in_of : ℕ → Result Scenario Refused
+built_in_of n = cond (eqb n 1) (Ok office) (cond (eqb n 2) (Ok archeologist) (cond (eqb n 3) (Ok bird_watcher) (refused NoScenario 0)))
 
--- refusal 11 for any other number
-unfoldable pub built_in_of : ℕ → BuiltIn
-built_in_of n = cond (eqb n 1) (accepted office) (cond (eqb n 2) (accepted archeologist) (cond (eqb n 3) (accepted bird_watcher) (record { refusal = NoScenario; block = 0; scenario = blank })))
+-- the scenario that is sent back: zero decimals on a refusal
+abbrev pub scenario_sent : Result Scenario Refused → Scenario
+scenario_sent (Ok s) = s
+scenario_sent (Err r) = blank

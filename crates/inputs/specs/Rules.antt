@@ -1,5 +1,5 @@
 -- The rules of the specification that a scenario and a contaminant have to keep, wherever they come from.
-use Rattle.std.specs.Prelude.{◌≡◌, ◌⊎◌, Bool, true, false, not, ◌&&◌, ◌||◌, List, [], ◌∷◌, ℕ, eqb}
+use Rattle.std.specs.Prelude.{◌≡◌, ◌⊎◌, Bool, true, false, not, ◌&&◌, ◌||◌, List, [], ◌∷◌, ℕ, eqb, Result, ⊤}
 use Rattle.outcome.specs.declared.Refusal.{Refusal}
 use Rattle.outcome.specs.declared.Refusal.TheVariants.{Field, Factor}
 use Rattle.outcome.specs.Outcome.{Test, test, refused_by}
@@ -29,7 +29,7 @@ lacks_factor s =
 abbrev pub scenario_tests : Scenario → ℕ → List Test
 scenario_tests s medium = test Field (not (scenario_fits s medium)) ∷ test Factor (lacks_factor s) ∷ []
 
-unfoldable pub scenario_refusal : Scenario → ℕ → Refusal
+unfoldable pub scenario_refusal : Scenario → ℕ → Result ⊤ Refusal
 scenario_refusal s medium = refused_by (scenario_tests s medium)
 
 -- 4: a decimal, the class or the id breaks its rule

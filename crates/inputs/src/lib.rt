@@ -8,7 +8,7 @@ ghost use Rattle.inputs.specs.Rules.{one_or_two, scenario_fits, contaminant_fits
 ghost use Rattle.inputs.specs.Valid.{valid_of, all_valid};
 
 use decimal::Decimal;
-use outcome::Refusal;
+use outcome::{Refusal, Refused};
 use rounding::BIAS;
 
 // A list or a site has 1 to 120 contaminants.
@@ -82,14 +82,6 @@ pub struct Contaminant {
     pub toxicity: Toxicity,
     pub transfer: Transfer,
     pub c: Decimal,
-}
-
-// A built-in scenario, or refusal 11 in block 0 with zero decimals.
-#[derive(Clone, Copy)]
-pub struct BuiltIn {
-    pub refusal: Refusal,
-    pub block: u32,
-    pub scenario: Scenario,
 }
 
 impl Scenario {
@@ -181,35 +173,16 @@ impl Scenario {
         },
     };
 
-    // The built-in scenario of a number from 1 to 3.
-    pub fn built_in(number: u32) -> BuiltIn
+    // The built-in scenario of a number from 1 to 3; refusal 11 in block 0 for any other number.
+    #[tactic(auto, unfolding(crate::specs::BuiltIn::built_in_of))]
+    pub fn built_in(number: u32) -> Result<Scenario, Refused>
         ensures { result ≡ built_in_of number }
     {
-        if number == 1 {
-            return BuiltIn {
-                refusal: Refusal::Accepted,
-                block: 0,
-                scenario: Scenario::OFFICE_WORKER,
-            };
-        }
-        if number == 2 {
-            return BuiltIn {
-                refusal: Refusal::Accepted,
-                block: 0,
-                scenario: Scenario::ARCHEOLOGIST,
-            };
-        }
-        if number == 3 {
-            return BuiltIn {
-                refusal: Refusal::Accepted,
-                block: 0,
-                scenario: Scenario::BIRD_WATCHER,
-            };
-        }
-        BuiltIn {
-            refusal: Refusal::Scenario,
-            block: 0,
-            scenario: Scenario::BLANK,
+        match number {
+            1 => Ok(Scenario::OFFICE_WORKER),
+            2 => Ok(Scenario::ARCHEOLOGIST),
+            3 => Ok(Scenario::BIRD_WATCHER),
+            _ => Err(Refusal::Scenario.in_block(0)),
         }
     }
 }
@@ -366,14 +339,15 @@ pub fn lacks_factor(s: Scenario) -> bool
 }
 
 // What is sent back of a scenario in a medium: 4, then 6.
-pub fn scenario_refusal(s: Scenario, medium: u32) -> Refusal
+#[tactic(auto, unfolding(crate::specs::Rules::scenario_refusal))]
+pub fn scenario_refusal(s: Scenario, medium: u32) -> Result<(), Refusal>
     ensures { result ≡ scenario_refusal s medium }
 {
-    if scenario_fits(s, medium) {
-        if lacks_factor(s) {
-            return Refusal::Factor;
-        }
-        return Refusal::Accepted;
+    if !scenario_fits(s, medium) {
+        return Err(Refusal::Field);
     }
-    Refusal::Field
+    if lacks_factor(s) {
+        return Err(Refusal::Factor);
+    }
+    Ok(())
 }

@@ -1,20 +1,43 @@
--- The number of a refusal is at most the greatest. Assumes nothing.
-use Prim.Native.Nat.{◌≤◌}
-use native.Mathlib.Omega.{arith}
+-- The numbers of what is sent back: a refusal's is from 1 to the greatest, so that an answer with number 0 is accepted and any other is refused.
+-- Assumes nothing.
+use Rattle.std.proofs.Common.{◌≡◌, ℕ, ◌≤◌, refl, subst, arith}
+use Rattle.std.specs.Prelude.{Result, Ok, Err, MatchResult, ⊤}
 use Rattle.outcome.specs.declared.Refusal.{Refusal}
-use Rattle.outcome.specs.declared.Refusal.TheVariants.{Accepted, Length, Check, Kind, Field, Count, Factor, Order, Pathway, Range, Room, Scenario}
-use Rattle.outcome.specs.Outcome.{number_of, most_number}
+use Rattle.outcome.specs.declared.Refused.{Refused}
+use Rattle.outcome.specs.declared.Refusal.TheVariants.{Length, Check, Kind, Field, Count, Factor, Order, Pathway, Range, Room, Scenario}
+use Rattle.outcome.specs.Outcome.{refusal_number, number_of, most_number}
 
-pub number_most : (n : Refusal) → number_of n ≤ most_number
-number_most Accepted = omega arith
-number_most Length = omega arith
-number_most Check = omega arith
-number_most Kind = omega arith
-number_most Field = omega arith
-number_most Count = omega arith
-number_most Factor = omega arith
-number_most Order = omega arith
-number_most Pathway = omega arith
-number_most Range = omega arith
-number_most Room = omega arith
-number_most Scenario = omega arith
+-- no answer is both
+pub not_both : {A E : Type 0} {a : A} {e : E} → Ok a ≡ Err e → ⊥
+not_both {A} {E} h = subst (λ (x : Result A E). MatchResult x (λ _. ⊤) (λ _. ⊥)) h tt
+
+pub record Numbered (n : ℕ) : Type 0 where
+  pub some : n ≡ 0 → ⊥
+  pub most : n ≤ most_number
+
+pub refusal_numbered : (n : Refusal) → Numbered (refusal_number n)
+refusal_numbered Length = record { some = λ e. omega (arith, e); most = omega arith }
+refusal_numbered Check = record { some = λ e. omega (arith, e); most = omega arith }
+refusal_numbered Kind = record { some = λ e. omega (arith, e); most = omega arith }
+refusal_numbered Field = record { some = λ e. omega (arith, e); most = omega arith }
+refusal_numbered Count = record { some = λ e. omega (arith, e); most = omega arith }
+refusal_numbered Factor = record { some = λ e. omega (arith, e); most = omega arith }
+refusal_numbered Order = record { some = λ e. omega (arith, e); most = omega arith }
+refusal_numbered Pathway = record { some = λ e. omega (arith, e); most = omega arith }
+refusal_numbered Range = record { some = λ e. omega (arith, e); most = omega arith }
+refusal_numbered Room = record { some = λ e. omega (arith, e); most = omega arith }
+refusal_numbered Scenario = record { some = λ e. omega (arith, e); most = omega arith }
+
+-- an answer with number 0 is accepted
+pub accepted_value : {A : Type 0} (x : Result A Refused) → number_of x ≡ 0 → (a : A) × (x ≡ Ok a)
+accepted_value (Ok a) z = (a, refl)
+accepted_value (Err r) z = absurd ((refusal_numbered r.refusal).some z)
+
+-- and any other is refused
+pub refused_value : {A : Type 0} (x : Result A Refused) → (number_of x ≡ 0 → ⊥) → (r : Refused) × (x ≡ Err r)
+refused_value (Ok a) n = absurd (n refl)
+refused_value (Err r) n = (r, refl)
+
+pub number_most : {A : Type 0} (x : Result A Refused) → number_of x ≤ most_number
+number_most (Ok a) = omega arith
+number_most (Err r) = (refusal_numbered r.refusal).most

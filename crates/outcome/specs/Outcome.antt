@@ -1,30 +1,42 @@
--- The number of each refusal (docs/SPECIFICATION.md, "What is sent back"); an accepted call has 0.
-use Rattle.std.specs.Prelude.{Bool, cond, List, [], ◌∷◌, ℕ}
+-- What is sent back (docs/SPECIFICATION.md, "What is sent back"): a value, or one of eleven refusals with the block that it concerns. The number and
+-- the block of each case: an accepted call has 0 and 0.
+use Rattle.std.specs.Prelude.{Bool, cond, List, [], ◌∷◌, ℕ, Result, Ok, Err, ⊤}
 use Rattle.outcome.specs.declared.Refusal.{Refusal}
-use Rattle.outcome.specs.declared.Answer.{Answer}
-use Rattle.outcome.specs.declared.Refusal.TheVariants.{Accepted, Length, Check, Kind, Field, Count, Factor, Order, Pathway, Range, Room, Scenario}
+use Rattle.outcome.specs.declared.Refused.{Refused}
+use Rattle.outcome.specs.declared.Refusal.TheVariants.{Length, Check, Kind, Field, Count, Factor, Order, Pathway, Range, Room, Scenario}
 
--- number and block, as they are sent back
-abbrev pub answer : Refusal → ℕ → Answer
-answer n block = record { refusal = n; block = block }
-
-abbrev pub number_of : Refusal → ℕ
-number_of Accepted = 0
-number_of Length = 1
-number_of Check = 2
-number_of Kind = 3
-number_of Field = 4
-number_of Count = 5
-number_of Factor = 6
-number_of Order = 7
-number_of Pathway = 8
-number_of Range = 9
-number_of Room = 10
-number_of Scenario = 11
+abbrev pub refusal_number : Refusal → ℕ
+refusal_number Length = 1
+refusal_number Check = 2
+refusal_number Kind = 3
+refusal_number Field = 4
+refusal_number Count = 5
+refusal_number Factor = 6
+refusal_number Order = 7
+refusal_number Pathway = 8
+refusal_number Range = 9
+refusal_number Room = 10
+refusal_number Scenario = 11
 
 -- the greatest of them
 abbrev pub most_number : ℕ
 most_number = 11
+
+-- a refusal with its block, and the answer that sends it back
+abbrev pub concerning : Refusal → ℕ → Refused
+concerning n block = record { refusal = n; block = block }
+
+abbrev pub refused : {A : Type 0} → Refusal → ℕ → Result A Refused
+refused n block = Err (concerning n block)
+
+-- ---- the number and the block of an answer
+abbrev pub number_of : {A : Type 0} → Result A Refused → ℕ
+number_of (Ok a) = 0
+number_of (Err r) = refusal_number r.refusal
+
+abbrev pub block_of : {A : Type 0} → Result A Refused → ℕ
+block_of (Ok a) = 0
+block_of (Err r) = r.block
 
 -- ---- tests in the order in which they are made: the first that holds is sent back
 pub record Test : Type 0 where
@@ -34,6 +46,16 @@ pub record Test : Type 0 where
 abbrev pub test : Refusal → Bool → Test
 test n holds = record { refusal = n; holds = holds }
 
-abbrev pub refused_by : List Test → Refusal
-refused_by [] = Accepted
-refused_by (t ∷ ts) = cond t.holds t.refusal (refused_by ts)
+abbrev pub refused_by : List Test → Result ⊤ Refusal
+refused_by [] = Ok tt
+refused_by (t ∷ ts) = cond t.holds (Err t.refusal) (refused_by ts)
+
+-- what tests of a block answer, with that block
+abbrev pub located : {A : Type 0} → Result A Refusal → ℕ → Result A Refused
+located (Ok a) block = Ok a
+located (Err n) block = refused n block
+
+-- what tests of a block send back, or the answer that comes after them
+abbrev pub passing : {A : Type 0} → Result ⊤ Refusal → ℕ → Result A Refused → Result A Refused
+passing (Ok x) block a = a
+passing (Err n) block a = refused n block

@@ -1,13 +1,12 @@
-// What a call sends back: accepted, or one of eleven refusals.
+// Why a call is refused: one of eleven refusals, and the block that it concerns. A call that can be refused answers a Result.
 #![tactic(auto)]
 
-ghost use Rattle.std.specs.Prelude.{◌≡◌, eqb};
-ghost use Rattle.outcome.specs.Outcome.{number_of};
+ghost use Rattle.std.specs.Prelude.{◌≡◌};
+ghost use Rattle.outcome.specs.Outcome.{refusal_number, number_of, block_of, concerning, located};
 
 // The word of each refusal, in the order of their numbers.
 #[derive(Clone, Copy)]
 pub enum Refusal {
-    Accepted,
     Length,
     Check,
     Kind,
@@ -21,36 +20,72 @@ pub enum Refusal {
     Scenario,
 }
 
-// The answer of a call that has nothing else to say: the refusal and the block that it concerns.
+// A refusal and the block that it concerns.
 #[derive(Clone, Copy)]
-pub struct Answer {
+pub struct Refused {
     pub refusal: Refusal,
     pub block: u32,
 }
 
-// The number of a refusal; 0 for an accepted call.
-pub fn number(r: Refusal) -> u32
-    ensures { result ≡ number_of r }
-{
-    match r {
-        Refusal::Accepted => 0,
-        Refusal::Length => 1,
-        Refusal::Check => 2,
-        Refusal::Kind => 3,
-        Refusal::Field => 4,
-        Refusal::Count => 5,
-        Refusal::Factor => 6,
-        Refusal::Order => 7,
-        Refusal::Pathway => 8,
-        Refusal::Range => 9,
-        Refusal::Room => 10,
-        Refusal::Scenario => 11,
+// The number of a refusal.
+impl From<Refusal> for u32 {
+    ghost from_gives = { λ n r. r ≡ refusal_number n };
+
+    fn from(n: Refusal) -> u32 {
+        match n {
+            Refusal::Length => 1,
+            Refusal::Check => 2,
+            Refusal::Kind => 3,
+            Refusal::Field => 4,
+            Refusal::Count => 5,
+            Refusal::Factor => 6,
+            Refusal::Order => 7,
+            Refusal::Pathway => 8,
+            Refusal::Range => 9,
+            Refusal::Room => 10,
+            Refusal::Scenario => 11,
+        }
     }
 }
 
-// Whether a call has not been refused.
-pub fn accepted(r: Refusal) -> bool
-    ensures { result ≡ eqb (number_of r) 0 }
+impl Refusal {
+    // The refusal with the block that it concerns.
+    pub fn in_block(self, block: u32) -> Refused
+        ensures { result ≡ concerning self block }
+    {
+        Refused {
+            refusal: self,
+            block,
+        }
+    }
+}
+
+// What tests of a block answer, with that block where they refuse it.
+pub fn in_block<T: Copy>(tested: Result<T, Refusal>, block: u32) -> Result<T, Refused>
+    ensures { result ≡ located tested block }
 {
-    number(r) == 0
+    match tested {
+        Ok(value) => Ok(value),
+        Err(refusal) => Err(refusal.in_block(block)),
+    }
+}
+
+// The number that an answer sends back: 0 where it is accepted.
+pub fn number<T: Copy>(answer: Result<T, Refused>) -> u32
+    ensures { result ≡ number_of answer }
+{
+    match answer {
+        Ok(_) => 0,
+        Err(refused) => u32::from(refused.refusal),
+    }
+}
+
+// The block that an answer sends back: 0 where it is accepted.
+pub fn block<T: Copy>(answer: Result<T, Refused>) -> u32
+    ensures { result ≡ block_of answer }
+{
+    match answer {
+        Ok(_) => 0,
+        Err(refused) => refused.block,
+    }
 }

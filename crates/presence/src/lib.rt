@@ -102,12 +102,13 @@ fn has_pathway(s: Scenario, medium: u32, r: Contaminant) -> bool
 }
 
 // What is sent back of a record that keeps its rules and its order: 8.
-pub fn record_refusal(s: Scenario, medium: u32, r: Contaminant) -> Refusal
+#[tactic(auto, unfolding(guideline_rules::specs::Pathway::record_refusal))]
+pub fn record_refusal(s: Scenario, medium: u32, r: Contaminant) -> Result<(), Refusal>
     requires { Checked s medium r }
     ensures { result ≡ record_refusal s medium r }
 {
-    if has_pathway(s, medium, r) {
-        return Refusal::Accepted;
+    if !has_pathway(s, medium, r) {
+        return Err(Refusal::Pathway);
     }
-    Refusal::Pathway
+    Ok(())
 }

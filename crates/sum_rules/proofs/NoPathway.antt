@@ -22,9 +22,8 @@ use Rattle.formulas.specs.Term.{formulas_for}
 use Rattle.formulas.specs.ExactTerm.{exact_present, exact_term, exact_total, exact_for, any_present}
 use Rattle.guideline_rules.proofs.Accepted.{Accepted}
 use Rattle.sum_rules.specs.Share.{Running, start, next, run_all, share_of, exact_used, exact_share}
-use Rattle.sum_rules.specs.Verdict.{verdict_number}
 use Rattle.sum_rules.specs.ListCall.{sums_of}
-use Rattle.sum_rules.specs.Promise.{some_pathway, side_at, ZeroSums}
+use Rattle.sum_rules.specs.Promise.{some_pathway, side_sent, ZeroSums}
 use Rattle.sum_rules.proofs.ShareBounds.{AllAccepted, share_bounds}
 use Rattle.sum_rules.proofs.ShareBounds.AllAccepted.{nobody, also}
 use Rattle.sum_rules.proofs.Runs.{accepted_list}
@@ -76,8 +75,8 @@ module _ (s : Scenario) (medium : ℕ) (side : Side) where
       (record { lower = zero_added Down z.lower (no_share Down r a k.0); upper = zero_added Up z.upper (no_share Up r a k.0) })
 
 -- "NONE": sums zero
-module _ (s : Scenario) (medium : ℕ) (rs : List Contaminant) (h : number_of (sums_of s medium rs).refusal ≡ 0) (side : Side) where
-  pub none_zero : verdict_number (side_at (sums_of s medium rs) side).verdict ≡ 4 → ZeroSums (side_at (sums_of s medium rs) side)
+module _ (s : Scenario) (medium : ℕ) (rs : List Contaminant) (h : number_of (sums_of s medium rs) ≡ 0) (side : Side) where
+  pub none_zero : (side_sent (sums_of s medium rs) side).verdict ≡ 4 → ZeroSums (side_sent (sums_of s medium rs) side)
   none_zero v =
       let p = accepted_list s medium rs h in
       let z = zero_run s medium side rs p.all ((verdict_judges s medium rs h side).none v) start (record { lower = refl; upper = refl }) in

@@ -4,17 +4,20 @@ use mathlib.Core.Bool.{Bool, true, false, cond, not, ◌&&◌, ◌||◌, or_asso
 use mathlib.Core.List.{List, [], ◌∷◌, map}
 use Prim.Native.Nat.{ℕ, ◌+◌, ◌≤◌}
 use native.Mathlib.Omega.{arith}
-use lib.Dec.{eqb, leb}
+use lib.Dec.{leb}
 use lib.ListN.{length}
-use borrow.Author.Tests.{leb-true, eqb-true, eqb-false}
+use borrow.Author.Tests.{leb-true}
 use Rattle.rounding.specs.declared.Direction.{Direction}
 use Rattle.rounding.specs.declared.Direction.TheVariants.{Down, Up}
 use Rattle.decimal.specs.declared.Decimal.{Decimal}
 use Rattle.decimal.specs.Decimal.{zero_of, add_of}
 use Rattle.decimal.specs.Lists.{added}
-use Rattle.outcome.specs.declared.Refusal.{Refusal}
 use Rattle.outcome.specs.declared.Refusal.TheVariants.{Length, Field, Order}
-use Rattle.outcome.specs.Outcome.{number_of, test, refused_by}
+use Rattle.outcome.specs.Outcome.{number_of, test, refused, refused_by}
+use Rattle.outcome.specs.declared.Refused.{Refused}
+use Rattle.outcome.proofs.Numbers.{not_both}
+use Rattle.outcome.proofs.Tests.{passing_ok}
+use Rattle.std.specs.Prelude.{Result, Ok}
 use Rattle.inputs.specs.declared.Scenario.{Scenario}
 use Rattle.inputs.specs.declared.Contaminant.{Contaminant}
 use Rattle.inputs.specs.Rules.{scenario_tests, scenario_refusal, contaminant_fits}
@@ -25,10 +28,10 @@ use Rattle.formulas.specs.ExactTerm.{exact_for, any_present}
 use Rattle.guideline_rules.specs.Pathway.{has_pathway}
 use Rattle.guideline_rules.proofs.Accepted.{Accepted, Fits, accepted_inputs, scenario_passed, values_of_lem}
 use Rattle.guideline_rules.proofs.WorkedOut.{any_same}
-use Rattle.sum_rules.specs.declared.SumsAnswer.{SumsAnswer}
+use Rattle.sum_rules.specs.declared.Sums.{Sums}
 use Rattle.sum_rules.specs.Share.{Running, start, next, run_all, share_of}
-use Rattle.sum_rules.specs.ListCall.{refused, side_sums, accepted, first_refusal, taken_in, walk, sums_of}
-use Rattle.sum_rules.specs.Promise.{some_pathway, side_at}
+use Rattle.sum_rules.specs.ListCall.{side_sums, accepted, first_refusal, taken_in, walk, sums_of}
+use Rattle.sum_rules.specs.Promise.{some_pathway, sent_of, side_sent}
 use Rattle.sum_rules.proofs.TakenIn.{taken_passed}
 use Rattle.sum_rules.proofs.ShareBounds.{AllAccepted}
 use Rattle.sum_rules.proofs.ShareBounds.AllAccepted.{nobody, also}
@@ -71,24 +74,24 @@ run_any s medium side (r ∷ rs) (also a as') t =
     ap (λ (b : Bool). t.any || (b || some_pathway s medium side rs)) (has_same s medium side r a)
 
 -- ---- an accepted walk
-record Walked (s : Scenario) (medium : ℕ) (rs : List Contaminant) (risk hazard : Running) (w : SumsAnswer) : Type 0 where
+record Walked (s : Scenario) (medium : ℕ) (rs : List Contaminant) (risk hazard : Running) (w : Result Sums Refused) : Type 0 where
   all : AllAccepted s medium rs
   is : w ≡ accepted s (run_all s medium Risk risk rs) (run_all s medium Hazard hazard rs)
 
 -- a record that is taken in: it keeps its rules, and the rest was walked
-step_cases : (s : Scenario) (medium : ℕ) (r : Contaminant) (rs : List Contaminant) (n : ℕ) (risk hazard : Running) (w : SumsAnswer) (a b : Bool) →
-    contaminant_fits r ≡ a → Fits s medium → (number_of w.refusal ≡ 0 → Walked s medium rs (next s medium Risk risk r) (next s medium Hazard hazard r) w) →
-    number_of (cond a (cond b (refused Order n) (taken_in s medium n risk hazard r w)) (refused Field n)).refusal ≡ 0 →
+step_cases : (s : Scenario) (medium : ℕ) (r : Contaminant) (rs : List Contaminant) (n : ℕ) (risk hazard : Running) (w : Result Sums Refused) (a b : Bool) →
+    contaminant_fits r ≡ a → Fits s medium → (number_of w ≡ 0 → Walked s medium rs (next s medium Risk risk r) (next s medium Hazard hazard r) w) →
+    number_of (cond a (cond b (refused Order n) (taken_in s medium n risk hazard r w)) (refused Field n)) ≡ 0 →
     Walked s medium (r ∷ rs) risk hazard (cond a (cond b (refused Order n) (taken_in s medium n risk hazard r w)) (refused Field n))
 step_cases s medium r rs n risk hazard w true false e g again h =
     let t = taken_passed s medium n risk hazard r w h in
-    let p = again (ap (λ (v : SumsAnswer). number_of v.refusal) (sym t.is) ∙ h) in
+    let p = again (ap (λ (v : Result Sums Refused). number_of v) (sym t.is) ∙ h) in
     record { all = also (accepted_inputs s medium r g.fits g.factors e) p.all; is = t.is ∙ p.is }
 step_cases s medium r rs n risk hazard w true true e g again h = absurd (omega (arith, h))
 step_cases s medium r rs n risk hazard w false b e g again h = absurd (omega (arith, h))
 
 walk_accepted : (s : Scenario) (medium : ℕ) → Fits s medium → (rs : List Contaminant) (n before : ℕ) (risk hazard : Running) →
-    number_of (walk s medium rs n before risk hazard).refusal ≡ 0 → Walked s medium rs risk hazard (walk s medium rs n before risk hazard)
+    number_of (walk s medium rs n before risk hazard) ≡ 0 → Walked s medium rs risk hazard (walk s medium rs n before risk hazard)
 unfolding walk
 walk_accepted s medium g [] n before risk hazard h = record { all = nobody; is = refl }
 walk_accepted s medium g (r ∷ rs) n before risk hazard h =
@@ -101,47 +104,39 @@ pub record AcceptedList (s : Scenario) (medium : ℕ) (rs : List Contaminant) : 
   pub all : AllAccepted s medium rs
   pub some : 1 ≤ length rs
   pub most : length rs ≤ 120
-  pub sides : (side : Side) → side_at (sums_of s medium rs) side ≡ side_sums s side (run_all s medium side start rs)
+  pub sides : (side : Side) → side_sent (sums_of s medium rs) side ≡ sent_of (side_sums s side (run_all s medium side start rs))
 
 -- the tests before the first record
 pub record FirstPassed (s : Scenario) (medium n : ℕ) : Type 0 where
   pub length_fits : leb 1 n && leb n 120 ≡ true
   pub scenario : Fits s medium
 
-pub first_passed : (s : Scenario) (medium n : ℕ) → number_of (first_refusal s medium n) ≡ 0 → FirstPassed s medium n
+pub first_passed : (s : Scenario) (medium n : ℕ) → first_refusal s medium n ≡ Ok tt → FirstPassed s medium n
 unfolding first_refusal scenario_refusal
 first_passed s medium n = cases (leb 1 n && leb n 120) refl
   where
-    cases : (b : Bool) → leb 1 n && leb n 120 ≡ b → number_of (refused_by (test Length (not b) ∷ scenario_tests s medium)) ≡ 0 → FirstPassed s medium n
+    cases : (b : Bool) → leb 1 n && leb n 120 ≡ b → refused_by (test Length (not b) ∷ scenario_tests s medium) ≡ Ok tt → FirstPassed s medium n
     cases true e h = record { length_fits = e; scenario = scenario_passed s medium h }
-    cases false e h = absurd (omega (arith, h))
+    cases false e h = absurd (not_both (sym h))
 
-outer : (n : Refusal) (w : SumsAnswer) (b : Bool) → eqb (number_of n) 0 ≡ b → number_of (cond b w (refused n 0)).refusal ≡ 0 →
-    (number_of n ≡ 0) × ((b ≡ true) × (number_of w.refusal ≡ 0))
-outer n w true e h = (eqb-true (number_of n) 0 e, (refl, h))
-outer n w false e h = absurd (eqb-false (number_of n) 0 e h)
-
-module _ (s : Scenario) (medium : ℕ) (rs : List Contaminant) (h : number_of (sums_of s medium rs).refusal ≡ 0) where
-  abbrev before : Refusal
-  before = first_refusal s medium (length rs)
-
-  outside : (number_of before ≡ 0) × ((eqb (number_of before) 0 ≡ true) × (number_of (walk s medium rs 1 0 start start).refusal ≡ 0))
+module _ (s : Scenario) (medium : ℕ) (rs : List Contaminant) (h : number_of (sums_of s medium rs) ≡ 0) where
+  outside : (first_refusal s medium (length rs) ≡ Ok tt) × (number_of (walk s medium rs 1 0 start start) ≡ 0)
   unfolding sums_of
-  outside = outer before (walk s medium rs 1 0 start start) (eqb (number_of before) 0) refl h
+  outside = passing_ok (first_refusal s medium (length rs)) 0 (walk s medium rs 1 0 start start) h
 
   parts : FirstPassed s medium (length rs)
   parts = first_passed s medium (length rs) outside.0
 
   walked : Walked s medium rs start start (walk s medium rs 1 0 start start)
-  walked = walk_accepted s medium parts.scenario rs 1 0 start start outside.1.1
+  walked = walk_accepted s medium parts.scenario rs 1 0 start start outside.1
 
   sums_is : sums_of s medium rs ≡ accepted s (run_all s medium Risk start rs) (run_all s medium Hazard start rs)
   unfolding sums_of
-  sums_is = rw outside.1.0 walked.is
+  sums_is = rw outside.0 walked.is
 
-  side_is : (side : Side) → side_at (sums_of s medium rs) side ≡ side_sums s side (run_all s medium side start rs)
-  side_is Risk = ap (λ (w : SumsAnswer). w.risk) sums_is
-  side_is Hazard = ap (λ (w : SumsAnswer). w.hazard) sums_is
+  side_is : (side : Side) → side_sent (sums_of s medium rs) side ≡ sent_of (side_sums s side (run_all s medium side start rs))
+  side_is Risk = ap (λ (w : Result Sums Refused). side_sent w Risk) sums_is
+  side_is Hazard = ap (λ (w : Result Sums Refused). side_sent w Hazard) sums_is
 
   pub accepted_list : AcceptedList s medium rs
   accepted_list =

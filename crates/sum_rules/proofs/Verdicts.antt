@@ -37,7 +37,7 @@ use Rattle.sum_rules.specs.declared.Verdict.TheVariants.{Within as WithinV, Abov
 use Rattle.sum_rules.specs.Share.{Running, start, exact_used, exact_share, run_all}
 use Rattle.sum_rules.specs.Verdict.{verdict_number, verdict_of}
 use Rattle.sum_rules.specs.ListCall.{working_target, side_sums, sums_of}
-use Rattle.sum_rules.specs.Promise.{exact_sum, some_pathway, no_concentration, side_at, more, less, Enclosed, MoreThan, Judged}
+use Rattle.sum_rules.specs.Promise.{exact_sum, some_pathway, no_concentration, sent_of, side_sent, more, less, Enclosed, MoreThan, Judged}
 use Rattle.sum_rules.proofs.ShareBounds.{AllAccepted, list_bounds}
 use Rattle.sum_rules.proofs.ShareBounds.AllAccepted.{nobody, also}
 use Rattle.sum_rules.proofs.Runs.{run_sum, run_start, run_any, AcceptedList, accepted_list}
@@ -170,7 +170,7 @@ scenario_valid : (s : Scenario) (medium : ℕ) (rs : List Contaminant) → AllAc
 scenario_valid s medium [] nobody h = absurd (omega (arith, h))
 scenario_valid s medium (r ∷ rs) (also a as') h = a.scenario
 
-module _ (s : Scenario) (medium : ℕ) (rs : List Contaminant) (h : number_of (sums_of s medium rs).refusal ≡ 0) (side : Side) where
+module _ (s : Scenario) (medium : ℕ) (rs : List Contaminant) (h : number_of (sums_of s medium rs) ≡ 0) (side : Side) where
   p : AcceptedList s medium rs
   p = accepted_list s medium rs h
 
@@ -186,7 +186,7 @@ module _ (s : Scenario) (medium : ℕ) (rs : List Contaminant) (h : number_of (s
   close_run : (dir : Direction) → Close dir (run_sum dir run) (exact_sum s medium side rs)
   close_run dir = close dir (run_sum dir run) (exact_sum s medium side rs) (fair_run dir)
 
-  side_is : side_at (sums_of s medium rs) side ≡ side_sums s side run
+  side_is : side_sent (sums_of s medium rs) side ≡ sent_of (side_sums s side run)
   unfolding run
   side_is = p.sides side
 
@@ -204,14 +204,14 @@ module _ (s : Scenario) (medium : ℕ) (rs : List Contaminant) (h : number_of (s
   target_operable = fair_operable (working_fair Up (target_of s side) small.digits small.low small.high)
 
   -- DEMAND 3: the exact sum lies from the lower to the upper sum, and each differs from it by at most 2/1,000,000 of it
-  pub sums_enclose : Enclosed (side_at (sums_of s medium rs) side).lower (side_at (sums_of s medium rs) side).upper (exact_sum s medium side rs)
+  pub sums_enclose : Enclosed (side_sent (sums_of s medium rs) side).lower (side_sent (sums_of s medium rs) side).upper (exact_sum s medium side rs)
   sums_enclose =
       let a = close_run Down in
       let b = close_run Up in
       rw side_is (record { below = a.side.side; above = b.side.side; lower_near = a.near.side; upper_near = b.near.side })
 
   -- with a pathway and C zero throughout the verdict is "within"
-  pub zero_within : some_pathway s medium side rs ≡ true → no_concentration rs ≡ true → verdict_number (side_at (sums_of s medium rs) side).verdict ≡ 1
+  pub zero_within : some_pathway s medium side rs ≡ true → no_concentration rs ≡ true → (side_sent (sums_of s medium rs) side).verdict ≡ 1
   unfolding verdict_of
   zero_within k z =
       let u = upper_zero (fair_run Up) (zero_sum s medium side rs _ refl z) in
@@ -220,7 +220,7 @@ module _ (s : Scenario) (medium : ℕ) (rs : List Contaminant) (h : number_of (s
 
   -- DEMAND 3: "none" exactly when there is no pathway; "within" only if the exact sum is at most the target, "above" only if it is more,
   -- "undecided" only if the target differs from it by at most 2/1,000,000 of it
-  pub verdict_judges : Judged (verdict_number (side_at (sums_of s medium rs) side).verdict) (some_pathway s medium side rs) (exact_sum s medium side rs) (given (target_of s side))
+  pub verdict_judges : Judged ((side_sent (sums_of s medium rs) side).verdict) (some_pathway s medium side rs) (exact_sum s medium side rs) (given (target_of s side))
   verdict_judges =
       rw (side_is, ← any_is)
       (judged (working_target s side) (close_run Down) (close_run Up) (fair_bottom (fair_run Down)) target_given run.any

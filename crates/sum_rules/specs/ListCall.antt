@@ -1,11 +1,12 @@
 -- The list call: the sums of both sides over a list of contaminants, or what is sent back.
-use Rattle.std.specs.Prelude.{Bool, cond, not, ◌&&◌, List, [], ◌∷◌, ◌++◌, ℕ, ◌+◌, eqb, leb, length, get_or}
+use Rattle.std.specs.Prelude.{Bool, cond, not, ◌&&◌, List, [], ◌∷◌, ◌++◌, ℕ, ◌+◌, leb, length, get_or, Result, Ok, ⊤}
 use Rattle.rounding.specs.declared.Direction.TheVariants.{Down, Up}
 use Rattle.decimal.specs.declared.Decimal.{Decimal}
-use Rattle.decimal.specs.Decimal.{zero_of, working_of}
+use Rattle.decimal.specs.Decimal.{working_of}
 use Rattle.outcome.specs.declared.Refusal.{Refusal}
-use Rattle.outcome.specs.Outcome.{number_of, Test, test, refused_by}
-use Rattle.outcome.specs.declared.Refusal.TheVariants.{Accepted, Length, Field, Order, Range}
+use Rattle.outcome.specs.declared.Refused.{Refused}
+use Rattle.outcome.specs.declared.Refusal.TheVariants.{Length, Field, Order, Range}
+use Rattle.outcome.specs.Outcome.{refused, Test, test, refused_by, passing}
 use Rattle.inputs.specs.declared.Scenario.{Scenario}
 use Rattle.inputs.specs.declared.Contaminant.{Contaminant}
 use Rattle.inputs.specs.Rules.{scenario_tests, contaminant_fits, most_contaminants}
@@ -15,9 +16,8 @@ use Rattle.formulas.specs.Term.{term_of, formulas_for, values_for}
 use Rattle.guideline_rules.specs.Pathway.{record_refusal}
 use Rattle.guideline_rules.specs.Guideline.{all_ranged, side_decimals}
 use Rattle.guideline_rules.specs.Promise.{target_of}
-use Rattle.sum_rules.specs.declared.Verdict.TheVariants.{Unset}
 use Rattle.sum_rules.specs.declared.SideSums.{SideSums}
-use Rattle.sum_rules.specs.declared.SumsAnswer.{SumsAnswer}
+use Rattle.sum_rules.specs.declared.Sums.{Sums}
 use Rattle.sum_rules.specs.Share.{Running, start, next, term_sum, share_of}
 use Rattle.sum_rules.specs.Verdict.{verdict_of}
 
@@ -42,34 +42,25 @@ abbrev pub block_ranged : Scenario → ℕ → Running → Running → Contamina
 block_ranged s medium risk hazard r = all_ranged (block_decimals s medium Risk risk r) && all_ranged (block_decimals s medium Hazard hazard r)
 
 -- ---- what comes back
-abbrev pub zero_sums : SideSums
-zero_sums = record { lower = zero_of; upper = zero_of; verdict = Unset }
-
-abbrev pub refused : Refusal → ℕ → SumsAnswer
-refused n block = record { refusal = n; block = block; risk = zero_sums; hazard = zero_sums }
-
 abbrev pub side_sums : Scenario → Side → Running → SideSums
 side_sums s side t = record { lower = t.lower; upper = t.upper; verdict = verdict_of t.any t.lower t.upper (working_target s side) }
 
-abbrev pub accepted : Scenario → Running → Running → SumsAnswer
-accepted s risk hazard = record { refusal = Accepted; block = 0; risk = side_sums s Risk risk; hazard = side_sums s Hazard hazard }
+abbrev pub accepted : Scenario → Running → Running → Result Sums Refused
+accepted s risk hazard = Ok (record { risk = side_sums s Risk risk; hazard = side_sums s Hazard hazard })
 
 -- ---- before the first of n records: 1 for a list of none or over 120, then the tests of the scenario
 abbrev pub first_tests : Scenario → ℕ → ℕ → List Test
 first_tests s medium n = test Length (not (leb 1 n && leb n most_contaminants)) ∷ scenario_tests s medium
 
-unfoldable pub first_refusal : Scenario → ℕ → ℕ → Refusal
+unfoldable pub first_refusal : Scenario → ℕ → ℕ → Result ⊤ Refusal
 first_refusal s medium n = refused_by (first_tests s medium n)
 
 -- ---- record by record, the n-th counting as block n: 4, 7, then
 -- the tests of a record and 9, or `again`, the answer with this record taken in
-unfoldable pub taken_in : Scenario → ℕ → ℕ → Running → Running → Contaminant → SumsAnswer → SumsAnswer
-taken_in s medium n risk hazard r again =
-    cond (eqb (number_of (record_refusal s medium r)) 0)
-    (cond (block_ranged s medium risk hazard r) again (refused Range n))
-    (refused (record_refusal s medium r) n)
+unfoldable pub taken_in : Scenario → ℕ → ℕ → Running → Running → Contaminant → Result Sums Refused → Result Sums Refused
+taken_in s medium n risk hazard r again = passing (record_refusal s medium r) n (cond (block_ranged s medium risk hazard r) again (refused Range n))
 
-unfoldable pub walk : Scenario → ℕ → List Contaminant → ℕ → ℕ → Running → Running → SumsAnswer
+unfoldable pub walk : Scenario → ℕ → List Contaminant → ℕ → ℕ → Running → Running → Result Sums Refused
 walk s medium [] n before risk hazard = accepted s risk hazard
 walk s medium (r ∷ rs) n before risk hazard =
     cond (contaminant_fits r)
@@ -78,8 +69,5 @@ walk s medium (r ∷ rs) n before risk hazard =
     (refused Field n)
 
 -- in block 0 the tests before the first record, then the records
-unfoldable pub sums_of : Scenario → ℕ → List Contaminant → SumsAnswer
-sums_of s medium rs =
-    cond (eqb (number_of (first_refusal s medium (length rs))) 0)
-    (walk s medium rs 1 0 start start)
-    (refused (first_refusal s medium (length rs)) 0)
+unfoldable pub sums_of : Scenario → ℕ → List Contaminant → Result Sums Refused
+sums_of s medium rs = passing (first_refusal s medium (length rs)) 0 (walk s medium rs 1 0 start start)

@@ -1,16 +1,18 @@
 -- The words of demand 3 after its first sentence.
-use Rattle.std.specs.Prelude.{◌≡◌, Bool, true, false, ◌&&◌, ◌||◌, List, [], ◌∷◌, map, ℕ, eqb}
+use Rattle.std.specs.Prelude.{◌≡◌, Bool, true, false, ◌&&◌, ◌||◌, List, [], ◌∷◌, map, ℕ, eqb, Result, Ok, Err}
 use Rattle.decimal.specs.declared.Decimal.{Decimal}
 use Rattle.decimal.specs.Decimal.{zero_of}
 use Rattle.decimal.specs.Fraction.{Fraction, nothing, given, times, AtMost}
 use Rattle.decimal.specs.Lists.{plus_all}
+use Rattle.outcome.specs.declared.Refused.{Refused}
 use Rattle.inputs.specs.declared.Scenario.{Scenario}
 use Rattle.inputs.specs.declared.Contaminant.{Contaminant}
 use Rattle.formulas.specs.Side.{Side, Risk, Hazard}
 use Rattle.formulas.specs.Term.{formulas_for}
 use Rattle.formulas.specs.ExactTerm.{exact_for, any_present}
 use Rattle.sum_rules.specs.declared.SideSums.{SideSums}
-use Rattle.sum_rules.specs.declared.SumsAnswer.{SumsAnswer}
+use Rattle.sum_rules.specs.declared.Sums.{Sums}
+use Rattle.sum_rules.specs.Verdict.{verdict_number}
 use Rattle.sum_rules.specs.Share.{exact_share}
 
 -- the exact sum of a list on a side: each record at its own concentration
@@ -27,12 +29,27 @@ abbrev pub no_concentration : List Contaminant → Bool
 no_concentration [] = true
 no_concentration (r ∷ rs) = eqb r.c.m 0 && no_concentration rs
 
-abbrev pub side_at : SumsAnswer → Side → SideSums
+-- ---- what is sent back of a side
+abbrev pub side_at : Sums → Side → SideSums
 side_at a Risk = a.risk
 side_at a Hazard = a.hazard
 
+-- two sums and the number of the verdict
+pub record SideSent : Type 0 where
+  pub lower : Decimal
+  pub upper : Decimal
+  pub verdict : ℕ
+
+abbrev pub sent_of : SideSums → SideSent
+sent_of t = record { lower = t.lower; upper = t.upper; verdict = verdict_number t.verdict }
+
+-- those of each case: zeros on a refusal
+abbrev pub side_sent : Result Sums Refused → Side → SideSent
+side_sent (Ok a) side = sent_of (side_at a side)
+side_sent (Err r) side = record { lower = zero_of; upper = zero_of; verdict = 0 }
+
 -- both sums are (0, 0): what "none" says beside its verdict
-pub record ZeroSums (t : SideSums) : Type 0 where
+pub record ZeroSums (t : SideSent) : Type 0 where
   pub lower : t.lower ≡ zero_of
   pub upper : t.upper ≡ zero_of
 

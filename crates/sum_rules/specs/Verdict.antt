@@ -3,11 +3,9 @@ use Rattle.std.specs.Prelude.{Bool, cond, not, ℕ}
 use Rattle.decimal.specs.declared.Decimal.{Decimal}
 use Rattle.decimal.specs.Decimal.{at_most_of}
 use Rattle.sum_rules.specs.declared.Verdict.{Verdict}
-use Rattle.sum_rules.specs.declared.Verdict.TheVariants.{Unset, Within, Above, Undecided, NoPathway}
+use Rattle.sum_rules.specs.declared.Verdict.TheVariants.{Within, Above, Undecided, NoPathway}
 
--- a refused call has verdict 0
 abbrev pub verdict_number : Verdict → ℕ
-verdict_number Unset = 0
 verdict_number Within = 1
 verdict_number Above = 2
 verdict_number Undecided = 3

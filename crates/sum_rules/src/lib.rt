@@ -2,12 +2,10 @@
 #![tactic(auto)]
 
 use decimal::Decimal;
-use outcome::Refusal;
 
-// The verdict of a side. A refused call has none at all.
+// The verdict of a side.
 #[derive(Clone, Copy)]
 pub enum Verdict {
-    Unset,
     Within,
     Above,
     Undecided,
@@ -22,11 +20,9 @@ pub struct SideSums {
     pub verdict: Verdict,
 }
 
-// The answer of the list call: accepted with the sums of both sides, or a refusal, its block and zeros.
+// Those of both sides: what an accepted call answers.
 #[derive(Clone, Copy)]
-pub struct SumsAnswer {
-    pub refusal: Refusal,
-    pub block: u32,
+pub struct Sums {
     pub risk: SideSums,
     pub hazard: SideSums,
 }
