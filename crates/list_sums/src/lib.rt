@@ -5,18 +5,17 @@ ghost use Rattle.std.specs.Prelude.{◌≡◌};
 ghost use Rattle.sum_rules.specs.ListCall.{sums_of};
 
 use inputs::{Contaminant, Scenario};
-use sum_rules::SumsAnswer;
+use outcome::Refused;
+use sum_rules::Sums;
 
-// The answer of a list: the plan, the first state, a step for each record in its order, and the answer of the last state.
-pub fn sums_of_list(s: Scenario, medium: u32, list: &[Contaminant]) -> SumsAnswer
+// The answer of a list: the plan, the first state, a step for each record in its order, and the sums of the last state.
+pub fn sums_of_list(s: Scenario, medium: u32, list: &[Contaminant]) -> Result<Sums, Refused>
     ensures { result ≡ sums_of s medium list.now }
 {
-    let p = shares::begin(s, medium, list.len());
-    let mut t = sums::first(p);
-    let mut i: usize = 0;
-    while i < list.len() {
-        t = sums::step(p, t, list[i]);
-        i += 1;
+    let p = shares::begin(s, medium, list.len())?;
+    let mut t = sums::first();
+    for r in list {
+        t = sums::step(p, t, *r)?;
     }
-    sums::finish(p, t)
+    Ok(sums::finish(p, t))
 }

@@ -1,4 +1,4 @@
--- The blank scenario, a scenario and a medium that passed, and the inputs of a record that passed. Assumes nothing.
+-- A scenario and a medium that passed, and the inputs of a record that passed. Assumes nothing.
 use mathlib.Core.Path.{◌≡◌, refl}
 use mathlib.Core.Bool.{true}
 use Prim.Native.Nat.{ℕ}
@@ -12,11 +12,6 @@ use Rattle.inputs.proofs.Tests.{and_split, one_or_two_lem}
 use Rattle.shares.specs.declared.Plan.{Plan}
 use Rattle.guideline_rules.proofs.Accepted.{Accepted, accepted_inputs}
 use Rattle.shares.specs.Plan.{Workable}
-
--- ---- zero decimals keep their rule
-pub blank_valid : all_valid (scenario_decimals blank) ≡ true
-unfolding valid_of scenario_of exposure_of contact_of targets_of
-blank_valid = refl
 
 -- ---- the scenario and the medium that passed
 pub fits_parts : (s : Scenario) (medium : ℕ) → scenario_fits s medium ≡ true → (all_valid (scenario_decimals s) ≡ true) × OneOrTwo medium

@@ -1,13 +1,13 @@
 -- What a scenario gives to every record, and what a record adds to the running sums: what the functions of `shares` promise.
-use Rattle.std.specs.Prelude.{◌≡◌, true, false, not, ◌||◌, ℕ, ◌+◌, ◌≤◌, ◌<◌, ◌-◌, eqb}
+use Rattle.std.specs.Prelude.{◌≡◌, true, false, not, ◌||◌, ℕ, ◌+◌, ◌≤◌, ◌<◌, ◌-◌, eqb, Result, Ok, Err, MatchResult}
 use Rattle.rounding.specs.Sizes.{ten_digits, bias}
 use Rattle.rounding.specs.declared.Direction.{Direction}
 use Rattle.rounding.specs.declared.Direction.TheVariants.{Down, Up}
 use Rattle.rounding.specs.declared.Number.{Number}
 use Rattle.rounding.specs.Operations.{product_of, sum_of}
 use Rattle.decimal.specs.Decimal.{decimal_of}
-use Rattle.outcome.specs.declared.Refusal.{Refusal}
-use Rattle.outcome.specs.Outcome.{number_of}
+use Rattle.outcome.specs.declared.Refused.{Refused}
+use Rattle.outcome.specs.Outcome.{located}
 use Rattle.inputs.specs.declared.Scenario.{Scenario}
 use Rattle.inputs.specs.declared.Contaminant.{Contaminant}
 use Rattle.inputs.specs.Inputs.{scenario_decimals}
@@ -40,18 +40,15 @@ pub record PlanFits (p : Plan) : Type 0 where
   pub fits : scenario_fits p.scenario p.medium ≡ true
   pub known : lacks_factor p.scenario ≡ false
 
-pub record Planned (s : Scenario) (medium : ℕ) (refusal : Refusal) (p : Plan) : Type 0 where
+pub record Planned (s : Scenario) (medium : ℕ) (p : Plan) : Type 0 where
   pub ready : PlanReady p
   pub scenario : p.scenario ≡ s
   pub media : p.medium ≡ medium
-  pub refused : p.refusal ≡ refusal
 
--- the plan for n records
-pub record Begun (s : Scenario) (medium n : ℕ) (p : Plan) : Type 0 where
-  pub ready : PlanReady p
-  pub refused : p.refusal ≡ first_refusal s medium n
-  pub scenario : number_of p.refusal ≡ 0 → p.scenario ≡ s
-  pub media : number_of p.refusal ≡ 0 → p.medium ≡ medium
+-- the plan for n records, or what is sent back before the first
+abbrev pub Begun : Scenario → ℕ → ℕ → Result Plan Refused → Type 0
+Begun s medium n x =
+    MatchResult x (λ (p : Plan). Planned s medium p × (first_refusal s medium n ≡ Ok tt)) (λ (r : Refused). located (first_refusal s medium n) 0 ≡ Err r)
 
 -- ---- the terms of a record that keeps its rules
 pub record Workable (p : Plan) (r : Contaminant) : Type 0 where

@@ -12,7 +12,7 @@ ghost use Rattle.shares.specs.Plan.{Planned, Begun, Workable, WorkedFor, RunSize
 
 use factors::prepared::Prepared;
 use inputs::{Contaminant, Scenario, scenario_refusal};
-use outcome::{Refusal, accepted};
+use outcome::{Refusal, Refused, in_block};
 use presence::either;
 use rounding::{Direction, Number};
 use terms::pathways::{Terms, total};
@@ -21,14 +21,13 @@ use terms::pathways::{Terms, total};
 const MOST: usize = inputs::MOST_CONTAMINANTS as usize;
 
 // What does not change from record to record: the scenario, the medium, and what is worked out of them in both
-// directions; and the refusal that comes before the first record.
+// directions.
 #[derive(Clone, Copy)]
 pub struct Plan {
     pub scenario: Scenario,
     pub medium: u32,
     pub up: Prepared,
     pub down: Prepared,
-    pub refusal: Refusal,
 }
 
 // A record's upper terms, the sums of its lower terms on each side, and its concentration.
@@ -56,22 +55,22 @@ pub struct Runs {
 }
 
 // The refusal before the first of n records: 1 for their number, 4 and 6 for the scenario and the medium.
-fn first_refusal(s: Scenario, medium: u32, n: usize) -> Refusal
+fn first_refusal(s: Scenario, medium: u32, n: usize) -> Result<(), Refusal>
     ensures { result ≡ first_refusal s medium n }
 {
     if n == 0 {
-        return Refusal::Length;
+        return Err(Refusal::Length);
     }
     if MOST < n {
-        return Refusal::Length;
+        return Err(Refusal::Length);
     }
     scenario_refusal(s, medium)
 }
 
 // The plan of a scenario and a medium that keep their rules.
-fn planned(s: Scenario, medium: u32, refusal: Refusal) -> Plan
+fn planned(s: Scenario, medium: u32) -> Plan
     requires { (all_valid (scenario_decimals s) ≡ true) × OneOrTwo medium }
-    ensures { Planned s medium refusal result }
+    ensures { Planned s medium result }
 {
     let f = factors::numbers::scenario_numbers(s);
     Plan {
@@ -79,19 +78,15 @@ fn planned(s: Scenario, medium: u32, refusal: Refusal) -> Plan
         medium,
         up: factors::prepared::prepare(f, Direction::Up),
         down: factors::prepared::prepare(f, Direction::Down),
-        refusal,
     }
 }
 
-// The plan for n records. One that is refused is of no use beyond its refusal, and holds the blank scenario.
-pub fn begin(s: Scenario, medium: u32, n: usize) -> Plan
+// The plan for n records, or the refusal before the first of them, in block 0.
+pub fn begin(s: Scenario, medium: u32, n: usize) -> Result<Plan, Refused>
     ensures { Begun s medium n result }
 {
-    let refusal = first_refusal(s, medium, n);
-    if accepted(refusal) {
-        return planned(s, medium, refusal);
-    }
-    planned(Scenario::BLANK, 1, refusal)
+    in_block(first_refusal(s, medium, n), 0)?;
+    Ok(planned(s, medium))
 }
 
 // The terms of a record.

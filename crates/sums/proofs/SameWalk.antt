@@ -4,24 +4,26 @@ use mathlib.Core.Bool.{Bool, true, false, cond}
 use mathlib.Core.List.{List, [], ◌∷◌}
 use Prim.Native.Nat.{ℕ, ◌+◌, ◌≤◌}
 use native.Mathlib.Omega.{arith}
-use lib.Dec.{eqb, leb}
+use lib.Dec.{leb}
 use lib.ListN.{length}
 use Rattle.outcome.specs.declared.Refusal.TheVariants.{Field, Order}
-use Rattle.outcome.specs.Outcome.{number_of}
+use Rattle.std.specs.Prelude.{Result}
+use Rattle.outcome.specs.declared.Refused.{Refused}
+use Rattle.outcome.specs.Outcome.{refused, passing}
 use Rattle.inputs.specs.declared.Scenario.{Scenario}
 use Rattle.inputs.specs.declared.Contaminant.{Contaminant}
 use Rattle.inputs.specs.Rules.{scenario_fits, lacks_factor, contaminant_fits, most_contaminants}
 use Rattle.formulas.specs.Side.{Risk, Hazard}
 use Rattle.guideline_rules.specs.Pathway.{record_refusal}
 use Rattle.guideline_rules.proofs.Accepted.{accepted_inputs}
-use Rattle.sum_rules.specs.declared.SumsAnswer.{SumsAnswer}
+use Rattle.sum_rules.specs.declared.Sums.{Sums}
 use Rattle.sum_rules.specs.Share.{Running, next}
-use Rattle.sum_rules.specs.ListCall.{refused, walk}
+use Rattle.sum_rules.specs.ListCall.{walk}
 use Rattle.sum_rules.proofs.TakenIn.{taken_ranged}
 use Rattle.sum_rules.proofs.InRange.{FairRun, fair_next, in_range_lem}
 use Rattle.sums.specs.State.{steps}
 
-same_step : (x y : SumsAnswer) {w v : SumsAnswer} (a b : Bool) → (a ≡ true → w ≡ v) → cond a (cond b x w) y ≡ cond a (cond b x v) y
+same_step : (x y : Result Sums Refused) {w v : Result Sums Refused} (a b : Bool) → (a ≡ true → w ≡ v) → cond a (cond b x w) y ≡ cond a (cond b x v) y
 same_step x y true b e = ap (cond b x) (e refl)
 same_step x y false b e = refl
 
@@ -38,5 +40,5 @@ module _ (s : Scenario) (medium : ℕ) (fits : scenario_fits s medium ≡ true) 
       (λ e.
       let a = accepted_inputs s medium r fits known e in
       taken_ranged s medium n risk hazard r _ (in_range_lem s medium fits known r (omega (arith, h)) f g e) ∙
-      ap (λ (v : SumsAnswer). cond (eqb (number_of own) 0) v (refused own n))
+      ap (passing own n)
       (walk_steps rs (n + 1) r.id {k = k + 1} (omega (arith, h)) (fair_next s medium Risk r a (omega (arith, h)) f) (fair_next s medium Hazard r a (omega (arith, h)) g)))

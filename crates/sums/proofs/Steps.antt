@@ -1,13 +1,12 @@
 -- What one record makes of the running sums of both sides, and the state of the list call after it. Assumes nothing.
-use mathlib.Core.Path.{◌≡◌, sym, ap, subst, ◌∙◌}
+use mathlib.Core.Path.{◌≡◌, refl, subst}
 use mathlib.Core.List.{List, ◌∷◌}
 use Prim.Native.Nat.{ℕ, ◌+◌, ◌≤◌}
 use native.Mathlib.Omega.{arith}
-use borrow.Author.Tests.{eq-eqb}
 use Rattle.rounding.specs.declared.Direction.TheVariants.{Down, Up}
 use Rattle.rounding.specs.declared.Number.{Number}
 use Rattle.rounding.specs.Operations.{sum_of}
-use Rattle.outcome.specs.Outcome.{number_of}
+use Rattle.std.specs.Prelude.{Ok}
 use Rattle.inputs.specs.declared.Contaminant.{Contaminant}
 use Rattle.inputs.specs.Rules.{most_contaminants}
 use Rattle.inputs.specs.Limits.{share_width, sum_width}
@@ -28,7 +27,7 @@ use Rattle.sums.specs.declared.State.{State}
 use Rattle.sum_rules.specs.Share.{Running, next}
 use Rattle.shares.specs.Plan.{Workable, WorkedFor, running_of, RunSize, Addable, Added}
 use Rattle.shares.proofs.Plans.{inputs_of_lem}
-use Rattle.sums.specs.State.{steps, answer_from, SideReady, RunsReady, Stepped, moved_of, Advancing, NextRuns}
+use Rattle.sums.specs.State.{steps, answer_from, SideReady, RunsReady, Moved, Advancing, NextRuns}
 use Rattle.sums.proofs.NextSums.{SideTerms, next_ready, next_is}
 
 -- the sum of a side's upper terms
@@ -96,35 +95,19 @@ module _ {p : Plan} {r : Contaminant} {w : Worked} (h : Workable p r) (k : Worke
 
 -- ---- the list call
 pub workable : {p : Plan} {t : State} {r : Contaminant} → Advancing p t r → Workable p r
-workable h = record { ready = h.good.ready; passed = h.good.passed h.accepted; contaminant = h.fits }
+workable h = record { ready = h.good.ready; passed = h.good.passed; contaminant = h.fits }
 
-module _ {p : Plan} {t : State} {r : Contaminant} (h : Advancing p t r) where
-  accepted_answer : (u : State) (rs : List Contaminant) → number_of u.refusal ≡ 0 →
-      answer_from p u rs ≡ steps p.scenario p.medium rs u.place u.previous (running_of u.runs.risk) (running_of u.runs.hazard)
-  unfolding answer_from
-  accepted_answer u rs e = rw (eq-eqb (number_of u.refusal) 0 e)
+module _ {p : Plan} {t : State} {r : Contaminant} (h : Advancing p t r) (z : record_refusal p.scenario p.medium r ≡ Ok tt) {y : Runs} (n : NextRuns p r t.place t.runs y) where
+  abbrev pub after : State
+  after = record { place = t.place + 1; previous = r.id; runs = y }
 
-  steps_next : (rs : List Contaminant) → number_of (record_refusal p.scenario p.medium r) ≡ 0 →
-      steps p.scenario p.medium (r ∷ rs) t.place t.previous (running_of t.runs.risk) (running_of t.runs.hazard) ≡
-      steps p.scenario p.medium rs (t.place + 1) r.id (next p.scenario p.medium Risk (running_of t.runs.risk) r)
-      (next p.scenario p.medium Hazard (running_of t.runs.hazard) r)
-  unfolding steps
-  steps_next rs e = rw (h.fits, h.rising, eq-eqb (number_of (record_refusal p.scenario p.medium r)) 0 e)
+  same_answer : (rs : List Contaminant) → answer_from p t (r ∷ rs) ≡ answer_from p after rs
+  unfolding answer_from steps
+  same_answer rs = rw (h.fits, h.rising, z, n.risk, n.hazard) refl
 
-  module _ {y : Runs} (n : NextRuns p r t.place t.runs y) where
-    moved_answer : (rs : List Contaminant) → number_of (record_refusal p.scenario p.medium r) ≡ 0 →
-        answer_from p t (r ∷ rs) ≡ answer_from p (moved_of t r.id y) rs
-    moved_answer rs e =
-        accepted_answer t (r ∷ rs) h.accepted ∙ steps_next rs e ∙
-        ap (λ (x : Running). steps p.scenario p.medium rs (t.place + 1) r.id x (next p.scenario p.medium Hazard (running_of t.runs.hazard) r))
-        (sym n.risk) ∙
-        ap (λ (x : Running). steps p.scenario p.medium rs (t.place + 1) r.id (running_of y.risk) x) (sym n.hazard) ∙
-        sym (accepted_answer (moved_of t r.id y) rs h.accepted)
-
-    pub moved_steps : {u : State} → number_of (record_refusal p.scenario p.medium r) ≡ 0 → u ≡ moved_of t r.id y → Stepped p t r u
-    moved_steps e k = subst (Stepped p t r) (sym k)
-        (record {
-          good = record { ready = h.good.ready; place = omega (arith, h.place); runs = n.ready; passed = h.good.passed };
-          same = λ rs l. moved_answer rs e;
-          room = λ rs l. record { room = λ m. omega (arith, l.room m) };
-        })
+  pub moved_steps : Moved p t r after
+  moved_steps = record {
+    good = record { ready = h.good.ready; passed = h.good.passed; place = omega (arith, h.place); runs = n.ready };
+    same = λ rs l. same_answer rs;
+    room = λ rs l. record { room = omega (arith, l.room) };
+  }

@@ -1,11 +1,11 @@
 -- The state of the list call between two records, what it means, and what the functions over it promise.
-use Rattle.std.specs.Prelude.{◌≡◌, true, false, cond, List, [], ◌∷◌, ℕ, ◌+◌, ◌≤◌, eqb, leb, length}
+use Rattle.std.specs.Prelude.{◌≡◌, true, false, cond, List, [], ◌∷◌, ℕ, ◌+◌, ◌≤◌, leb, length, Result, Ok, Err, MatchResult}
 use Rattle.rounding.specs.declared.Number.{Number}
 use Rattle.decimal.specs.declared.Decimal.{Decimal}
 use Rattle.decimal.specs.Decimal.{decimal_of}
-use Rattle.outcome.specs.declared.Refusal.{Refusal}
-use Rattle.outcome.specs.declared.Refusal.TheVariants.{Accepted, Field, Order}
-use Rattle.outcome.specs.Outcome.{number_of}
+use Rattle.outcome.specs.declared.Refused.{Refused}
+use Rattle.outcome.specs.declared.Refusal.TheVariants.{Field, Order}
+use Rattle.outcome.specs.Outcome.{refused, passing}
 use Rattle.inputs.specs.declared.Scenario.{Scenario}
 use Rattle.inputs.specs.declared.Contaminant.{Contaminant}
 use Rattle.inputs.specs.Rules.{contaminant_fits, most_contaminants}
@@ -18,33 +18,28 @@ use Rattle.shares.specs.declared.SideRun.{SideRun}
 use Rattle.shares.specs.declared.Runs.{Runs}
 use Rattle.sums.specs.declared.State.{State}
 use Rattle.sum_rules.specs.declared.SideSums.{SideSums}
-use Rattle.sum_rules.specs.declared.SumsAnswer.{SumsAnswer}
+use Rattle.sum_rules.specs.declared.Sums.{Sums}
 use Rattle.sum_rules.specs.Verdict.{verdict_of}
 use Rattle.sum_rules.specs.Share.{Running, next}
-use Rattle.sum_rules.specs.ListCall.{working_target, refused, accepted}
+use Rattle.sum_rules.specs.ListCall.{working_target, accepted}
 use Rattle.shares.specs.Plan.{PlanReady, PlanFits, no_runs, running_of}
 
 -- the records one by one without condition 9, which cannot hold (proofs/InRange.antt)
-unfoldable pub steps : Scenario → ℕ → List Contaminant → ℕ → ℕ → Running → Running → SumsAnswer
+unfoldable pub steps : Scenario → ℕ → List Contaminant → ℕ → ℕ → Running → Running → Result Sums Refused
 steps s medium [] n before risk hazard = accepted s risk hazard
 steps s medium (r ∷ rs) n before risk hazard =
     cond (contaminant_fits r)
     (cond (leb r.id before) (refused Order n)
-    (cond (eqb (number_of (record_refusal s medium r)) 0)
-    (steps s medium rs (n + 1) r.id (next s medium Risk risk r) (next s medium Hazard hazard r))
-    (refused (record_refusal s medium r) n)))
+    (passing (record_refusal s medium r) n (steps s medium rs (n + 1) r.id (next s medium Risk risk r) (next s medium Hazard hazard r))))
     (refused Field n)
 
 -- the answer from this state with the rest of the records
-unfoldable pub answer_from : Plan → State → List Contaminant → SumsAnswer
-answer_from p t rs =
-    cond (eqb (number_of t.refusal) 0)
-    (steps p.scenario p.medium rs t.place t.previous (running_of t.runs.risk) (running_of t.runs.hazard))
-    (refused t.refusal t.block)
+unfoldable pub answer_from : Plan → State → List Contaminant → Result Sums Refused
+answer_from p t rs = steps p.scenario p.medium rs t.place t.previous (running_of t.runs.risk) (running_of t.runs.hazard)
 
 -- the places of the rest end at 120
 pub record Room (t : State) (rs : List Contaminant) : Type 0 where
-  pub room : number_of t.refusal ≡ 0 → t.place + length rs ≤ most_contaminants + 1
+  pub room : t.place + length rs ≤ most_contaminants + 1
 
 -- the sums of a side after some records, with the range of their exponents
 pub record SideReady (w : ℕ) (x : SideRun) : Type 0 where
@@ -64,29 +59,29 @@ pub record NextRuns (p : Plan) (r : Contaminant) (place : ℕ) (x y : Runs) : Ty
 -- what every state keeps
 pub record Good (p : Plan) (t : State) : Type 0 where
   pub ready : PlanReady p
+  pub passed : PlanFits p
   pub place : t.place ≤ most_contaminants + 1
   pub runs : RunsReady (share_width + t.place) t.runs
-  pub passed : number_of t.refusal ≡ 0 → PlanFits p
 
 -- u is the state after t and the record r
-pub record Stepped (p : Plan) (t : State) (r : Contaminant) (u : State) : Type 0 where
+pub record Moved (p : Plan) (t : State) (r : Contaminant) (u : State) : Type 0 where
   pub good : Good p u
   pub same : (rs : List Contaminant) → Room t (r ∷ rs) → answer_from p t (r ∷ rs) ≡ answer_from p u rs
   pub room : (rs : List Contaminant) → Room t (r ∷ rs) → Room u rs
 
+-- e is the answer at the record r, whatever comes after it
+pub record Stopped (p : Plan) (t : State) (r : Contaminant) (e : Refused) : Type 0 where
+  pub same : (rs : List Contaminant) → answer_from p t (r ∷ rs) ≡ Err e
+
+abbrev pub Stepped : Plan → State → Contaminant → Result State Refused → Type 0
+Stepped p t r x = MatchResult x (Moved p t r) (Stopped p t r)
+
 -- ---- what the parts of a step make
-abbrev pub first_of : Plan → State
-first_of p = record { place = 1; previous = 0; refusal = p.refusal; block = 0; runs = no_runs }
-
-abbrev pub refuse_of : State → Refusal → State
-refuse_of t n = record { place = t.place; previous = t.previous; refusal = n; block = t.place; runs = t.runs }
-
-abbrev pub moved_of : State → ℕ → Runs → State
-moved_of t id runs = record { place = t.place + 1; previous = id; refusal = t.refusal; block = t.block; runs = runs }
+abbrev pub first_of : State
+first_of = record { place = 1; previous = 0; runs = no_runs }
 
 pub record Advancing (p : Plan) (t : State) (r : Contaminant) : Type 0 where
   pub good : Good p t
-  pub accepted : number_of t.refusal ≡ 0
   pub place : t.place ≤ most_contaminants
   pub fits : contaminant_fits r ≡ true
   pub rising : leb r.id t.previous ≡ false
@@ -103,10 +98,8 @@ side_sums_of x target = record {
   verdict = verdict_of x.any (decimal_of x.lower) (decimal_of x.upper) target;
 }
 
-abbrev pub reported_of : Scenario → Runs → SumsAnswer
+abbrev pub reported_of : Scenario → Runs → Sums
 reported_of s x = record {
-  refusal = Accepted;
-  block = 0;
   risk = side_sums_of x.risk (working_target s Risk);
   hazard = side_sums_of x.hazard (working_target s Hazard);
 }

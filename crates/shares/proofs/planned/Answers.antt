@@ -26,5 +26,4 @@ returns c =
       };
       scenario = refl;
       media = refl;
-      refused = refl;
     }

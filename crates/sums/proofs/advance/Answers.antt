@@ -1,17 +1,14 @@
 -- `sums::advance`: a record is refused by its own tests, or adds its shares to the sums.
-use Rattle.std.proofs.Common.{sym, ap, ◌∙◌, eqb-true}
-use borrow.Author.Tests.{eqb-false}
-use Rattle.outcome.specs.Outcome.{number_of}
-use Rattle.sums.proofs.States.{stepped_record}
+use Rattle.std.proofs.Common.{sym}
+use Rattle.outcome.proofs.Tests.{handed_back, tests_passed}
+use Rattle.sums.proofs.States.{stopped_record}
 use Rattle.sums.proofs.Steps.{workable, next_runs, addable, moved_steps}
 use Rattle.sums.proofs.advance.Goals as goal
 
-pub returns-then-not-accepted : goal.returns-then-not-accepted
-returns-then-not-accepted c =
+pub returns-in_err-in_block : goal.returns-in_err-in_block
+returns-in_err-in_block c =
     let p = c.requires in
-    let own = c.record_refusal-own in
-    let no = eqb-false (number_of own.result) 0 (sym c.accepted.ensures ∙ c.if-not-accepted.true) in
-    stepped_record c.args.r p.good p.accepted p.fits p.rising own.ensures no c.refuse.ensures
+    rw (handed_back c.from_residual.result c.from_residual.ensures.1) (stopped_record p.fits p.rising c.record_refusal.ensures (sym c.in_err-in_block.ensures))
 
 pub add_shares-requires : goal.add_shares-requires
 add_shares-requires c =
@@ -22,8 +19,6 @@ add_shares-requires c =
 pub returns : goal.returns
 returns c =
     let p = c.requires in
-    let own = c.record_refusal-own in
-    let zero = eqb-true (number_of own.result) 0 (sym c.accepted.ensures ∙ c.if-not-accepted.false) in
     let sums =
     next_runs (workable p) c.work-w.ensures c.total-risk.ensures.0 c.total-hazard.ensures.0 p.good.place p.good.runs c.add_shares.ensures in
-    moved_steps p sums (sym (ap number_of own.ensures) ∙ zero) c.moved.ensures
+    moved_steps p (tests_passed c.record_refusal.ensures c.args.t.place (sym c.in_ok-in_block.ensures)) sums

@@ -1,12 +1,10 @@
--- `sums::finish`: the refusal of the state, or its sums.
-use Rattle.std.proofs.Common.{sym, ◌∙◌}
+-- `sums::finish`: no record is left, so the answer is that of the sums.
+use Rattle.std.proofs.Common.{ap}
+use Rattle.std.specs.Prelude.{Ok}
 use Rattle.sums.specs.State.{steps, answer_from}
+use Rattle.sums.proofs.Comparisons.{runs_comparable}
 use Rattle.sums.proofs.finish.Goals as goal
 
-pub returns-then-accepted : goal.returns-then-accepted
-unfolding answer_from steps
-returns-then-accepted c = rw (sym c.accepted.ensures ∙ c.if-accepted.true) c.reported.ensures
-
 pub returns : goal.returns
-unfolding answer_from
-returns c = rw (sym c.accepted.ensures ∙ c.if-accepted.false) c.refused.ensures
+unfolding answer_from steps
+returns c = rw c.reported.ensures
