@@ -1,20 +1,15 @@
 -- A refused writer leaves every byte as it was; an accepted one leaves all but the first 512. Assumes nothing.
-use mathlib.Core.Path.{◌≡◌}
-use mathlib.Core.List.{List}
-use Prim.Native.Nat.{ℕ}
-use lib.ListN.{length, drop}
+use Rattle.std.proofs.Common.{◌≡◌, List, ℕ, length, drop, refl}
+use Rattle.std.specs.Prelude.{Result, Ok, Err, ⊤}
 use lib.Seq.{drop_at}
-use borrow.Author.Tests.{eq-eqb, ne_eqb}
-use Rattle.outcome.specs.declared.Refusal.{Refusal}
-use Rattle.outcome.specs.Outcome.{number_of}
 use Rattle.words.specs.Bytes.{over}
 use Rattle.block_rules.specs.Rules.{block_size}
 use Rattle.block_rules.specs.Answers.{left_by}
 
-pub refused_left : (n : Refusal) (block out : List ℕ) → (number_of n ≡ 0 → ⊥) → left_by n block out ≡ out
+pub refused_left : {E : Type 0} {x : Result ⊤ E} {e : E} (block out : List ℕ) → x ≡ Err e → left_by x block out ≡ out
 unfolding left_by
-refused_left n block out h = rw (ne_eqb (number_of n) 0 h)
+refused_left block out h = rw h refl
 
-pub later_left : (n : Refusal) (block out : List ℕ) → number_of n ≡ 0 → length block ≡ block_size → drop block_size (left_by n block out) ≡ drop block_size out
+pub later_left : {E : Type 0} {x : Result ⊤ E} (block out : List ℕ) → x ≡ Ok tt → length block ≡ block_size → drop block_size (left_by x block out) ≡ drop block_size out
 unfolding left_by over
-later_left n block out z e = rw (eq-eqb (number_of n) 0 z, drop_at block (drop (length block) out) block_size e, e)
+later_left block out z e = rw (z, drop_at block (drop (length block) out) block_size e, e)

@@ -1,5 +1,5 @@
 -- Reading what the writer of kind 2 wrote gives the same contaminant, each decimal with the same m and the same e. Assumes nothing.
-use mathlib.Core.Path.{◌≡◌, refl, ap, ◌∙◌}
+use mathlib.Core.Path.{◌≡◌, refl, ap, ◌∙◌, sym}
 use mathlib.Core.List.{List}
 use mathlib.Core.Bool.{true, ◌&&◌, not, cond}
 use Prim.Native.Nat.{ℕ, ◌<◌}
@@ -8,7 +8,7 @@ use lib.ListN.{length}
 use lib.Dec.{eqb, leb, ltb}
 use borrow.Author.Tests.{eq-eqb, lt-leb, not-false}
 use Rattle.outcome.specs.declared.Refusal.{Refusal}
-use Rattle.outcome.specs.declared.Refusal.TheVariants.{Accepted, Field, Order, Room}
+use Rattle.outcome.specs.declared.Refusal.TheVariants.{Field, Order, Room}
 use Rattle.words.specs.Words.{word_at, part_of}
 use Rattle.words.specs.Bytes.{over}
 use Rattle.words.proofs.Written.{part_over}
@@ -19,11 +19,12 @@ use Rattle.inputs.specs.Rules.{one_or_two, contaminant_fits}
 use Rattle.inputs.proofs.Tests.{and_split, contaminant_of_lem}
 use Rattle.fields.specs.Fields.{decimals_at}
 use Rattle.fields.proofs.ReadBack.{all_fit}
-use Rattle.block_rules.specs.declared.ContaminantRead.TheVariants as C
 use Rattle.block_rules.specs.Rules.{in_file}
 use Rattle.block_rules.specs.Pieces.{contaminant_pieces, unused_bytes}
 use Rattle.block_rules.specs.Reading.{contaminant_at, contaminant_unused, sound_at, contaminant_read}
-use Rattle.block_rules.proofs.Found.{passed, refused}
+use Rattle.block_rules.proofs.Found.{passed}
+use Rattle.outcome.proofs.Numbers.{not_both}
+use Rattle.std.specs.Prelude.{Result, Ok, Err, ⊤}
 use Rattle.block_rules.proofs.Rules.{in_file_lem, at_most_two}
 use Rattle.block_rules.specs.Layouts.{unused_of, contaminant_block}
 use Rattle.block_rules.specs.Answers.{contaminant_fit, contaminant_refusal, left_by, contaminant_left}
@@ -84,27 +85,27 @@ module _ (place previous : ℕ) (r : Contaminant) (fit : contaminant_fit place r
   kind = kind_back 2 place r.class r.id (contaminant_decimals r) gap (omega arith)
 
   -- only the order is left to be tested
-  pub contaminant_read_back : contaminant_read cb place previous ≡ cond (leb r.id previous) (C.Refused Order) (C.Found r)
+  pub contaminant_read_back : contaminant_read cb place previous ≡ cond (leb r.id previous) (Err Order) (Ok r)
   unfolding contaminant_read
   contaminant_read_back = simp (eq-eqb (length cb) 512 (contaminant_length place r), sound, eq-eqb (word_at cb 0) 2 kind, read_id, read_record, valid, unused)
 
   module _ (above : previous < r.id) where
-    pub contaminant_back : contaminant_read cb place previous ≡ C.Found r
+    pub contaminant_back : contaminant_read cb place previous ≡ Ok r
     contaminant_back = contaminant_read_back ∙ rw (lt-leb r.id previous above)
 
-    pub contaminant_back_over : (d : List ℕ) → contaminant_read (part_of (over cb d) 0 512) place previous ≡ C.Found r
+    pub contaminant_back_over : (d : List ℕ) → contaminant_read (part_of (over cb d) 0 512) place previous ≡ Ok r
     contaminant_back_over d = ap (λ (l : List ℕ). contaminant_read l place previous) (part_over cb d 512 (contaminant_length place r)) ∙ contaminant_back
 
 -- ---- the same of what the call leaves, where it accepts
-accepted_fits : (room place : ℕ) (r : Contaminant) → contaminant_refusal room place r ≡ Accepted → contaminant_fit place r ≡ true
+accepted_fits : (room place : ℕ) (r : Contaminant) → contaminant_refusal room place r ≡ Ok tt → contaminant_fit place r ≡ true
 unfolding contaminant_refusal
 accepted_fits room place r e =
-    let e₁ = (passed (ltb room 512) Room _ Accepted (refused Room (λ z. omega arith)) e).1 in
-    not-false _ (passed (not (contaminant_fit place r)) Field Accepted Accepted (refused Field (λ z. omega arith)) e₁).0
+    let e₁ = (passed (ltb room 512) (Err Room) _ (Ok tt) (λ z. not_both (sym z)) e).1 in
+    not-false _ (passed (not (contaminant_fit place r)) (Err Field) (Ok tt) (Ok tt) (λ z. not_both (sym z)) e₁).0
 
-pub contaminant_call_back : (out : List ℕ) (place previous : ℕ) (r : Contaminant) → contaminant_refusal (length out) place r ≡ Accepted → r.id < 4294967296 → previous < r.id
-    → contaminant_read (part_of (contaminant_left out place r) 0 512) place previous ≡ C.Found r
+pub contaminant_call_back : (out : List ℕ) (place previous : ℕ) (r : Contaminant) → contaminant_refusal (length out) place r ≡ Ok tt → r.id < 4294967296 → previous < r.id
+    → contaminant_read (part_of (contaminant_left out place r) 0 512) place previous ≡ Ok r
 unfolding contaminant_left left_by
 contaminant_call_back out place previous r e small above =
-    ap (λ (a : Refusal). contaminant_read (part_of (left_by a (contaminant_block place r) out) 0 512) place previous) e
+    ap (λ (a : Result ⊤ Refusal). contaminant_read (part_of (left_by a (contaminant_block place r) out) 0 512) place previous) e
     ∙ contaminant_back_over place previous r (accepted_fits (length out) place r e) small above out

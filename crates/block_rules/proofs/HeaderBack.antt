@@ -1,5 +1,5 @@
 -- Reading what the writer of kind 1 wrote gives the same header, each decimal with the same m and the same e. Assumes nothing.
-use mathlib.Core.Path.{◌≡◌, refl, ap, ap₂, ◌∙◌}
+use mathlib.Core.Path.{◌≡◌, refl, ap, ap₂, ◌∙◌, sym}
 use mathlib.Core.List.{List}
 use mathlib.Core.Bool.{Bool, true, false, ◌&&◌, not}
 use Prim.Native.Nat.{ℕ, ◌+◌}
@@ -8,7 +8,7 @@ use lib.ListN.{length}
 use lib.Dec.{eqb, ltb}
 use borrow.Author.Tests.{eq-eqb, not-false}
 use Rattle.outcome.specs.declared.Refusal.{Refusal}
-use Rattle.outcome.specs.declared.Refusal.TheVariants.{Accepted, Field, Factor, Room}
+use Rattle.outcome.specs.declared.Refusal.TheVariants.{Field, Factor, Room}
 use Rattle.words.specs.Words.{word_at, part_of}
 use Rattle.words.specs.Bytes.{over}
 use Rattle.words.proofs.Written.{part_over}
@@ -21,11 +21,12 @@ use Rattle.inputs.proofs.Tests.{and_split, scenario_of_lem}
 use Rattle.fields.specs.Fields.{decimals_at}
 use Rattle.fields.proofs.ReadBack.{all_fit}
 use Rattle.block_rules.specs.declared.Header.{Header}
-use Rattle.block_rules.specs.declared.HeaderRead.TheVariants as H
 use Rattle.block_rules.specs.Rules.{in_file, count_ok}
 use Rattle.block_rules.specs.Pieces.{header_pieces, unused_bytes}
 use Rattle.block_rules.specs.Reading.{scenario_at, header_at, header_unused, sound_at, header_read}
-use Rattle.block_rules.proofs.Found.{passed, refused}
+use Rattle.block_rules.proofs.Found.{passed}
+use Rattle.outcome.proofs.Numbers.{not_both}
+use Rattle.std.specs.Prelude.{Result, Ok, Err, ⊤}
 use Rattle.block_rules.proofs.Rules.{in_file_lem, at_most_two}
 use Rattle.block_rules.specs.Layouts.{unused_of, header_block}
 use Rattle.block_rules.specs.Answers.{header_fit, header_refusal, left_by, header_left}
@@ -106,27 +107,27 @@ module _ (h : Header) (fit : header_fit h ≡ true) (known : lacks_factor h.scen
   unfolding header_at
   fields_good = ap₂ (λ (x : Header) (y : Bool). scenario_fits x.scenario x.medium && y) read_header_lem unused ∙ ap (λ (x : Bool). x && true) valid
 
-  pub header_back : header_read hb (h.count + 1) ≡ H.Found h
+  pub header_back : header_read hb (h.count + 1) ≡ Ok h
   unfolding header_read
   header_back = simp (eq-eqb (length hb) 512 (header_length h), sound, eq-eqb (word_at hb 0) 1 kind, fields_good, count_good, factors_good, read_header_lem)
 
-  pub header_back_over : (d : List ℕ) → header_read (part_of (over hb d) 0 512) (h.count + 1) ≡ H.Found h
+  pub header_back_over : (d : List ℕ) → header_read (part_of (over hb d) 0 512) (h.count + 1) ≡ Ok h
   header_back_over d = ap (λ (l : List ℕ). header_read l (h.count + 1)) (part_over hb d 512 (header_length h)) ∙ header_back
 
 -- ---- the same of what the call leaves, where it accepts
-accepted_fits : (room : ℕ) (h : Header) → header_refusal room h ≡ Accepted → (header_fit h ≡ true) × (lacks_factor h.scenario ≡ false)
+accepted_fits : (room : ℕ) (h : Header) → header_refusal room h ≡ Ok tt → (header_fit h ≡ true) × (lacks_factor h.scenario ≡ false)
 unfolding header_refusal header_fit
 accepted_fits room h e =
     let s = h.scenario in
-    let e₁ = (passed (ltb room 512) Room _ Accepted (refused Room (λ z. omega arith)) e).1 in
-    let e₂ = passed (not (in_file h.count)) Field _ Accepted (refused Field (λ z. omega arith)) e₁ in
-    let e₃ = passed (not (scenario_fits s h.medium)) Field _ Accepted (refused Field (λ z. omega arith)) e₂.1 in
-    let lacks = (passed (lacks_factor s) Factor Accepted Accepted (refused Factor (λ z. omega arith)) e₃.1).0 in
+    let e₁ = (passed (ltb room 512) (Err Room) _ (Ok tt) (λ z. not_both (sym z)) e).1 in
+    let e₂ = passed (not (in_file h.count)) (Err Field) _ (Ok tt) (λ z. not_both (sym z)) e₁ in
+    let e₃ = passed (not (scenario_fits s h.medium)) (Err Field) _ (Ok tt) (λ z. not_both (sym z)) e₂.1 in
+    let lacks = (passed (lacks_factor s) (Err Factor) (Ok tt) (Ok tt) (λ z. not_both (sym z)) e₃.1).0 in
     (rw (not-false (in_file h.count) e₂.0, not-false (scenario_fits s h.medium) e₃.0), lacks)
 
-pub header_call_back : (out : List ℕ) (h : Header) → header_refusal (length out) h ≡ Accepted →
-    header_read (part_of (header_left out h) 0 512) (h.count + 1) ≡ H.Found h
+pub header_call_back : (out : List ℕ) (h : Header) → header_refusal (length out) h ≡ Ok tt →
+    header_read (part_of (header_left out h) 0 512) (h.count + 1) ≡ Ok h
 unfolding header_left left_by
 header_call_back out h e =
     let f = accepted_fits (length out) h e in
-    ap (λ (a : Refusal). header_read (part_of (left_by a (header_block h) out) 0 512) (h.count + 1)) e ∙ header_back_over h f.0 f.1 out
+    ap (λ (a : Result ⊤ Refusal). header_read (part_of (left_by a (header_block h) out) 0 512) (h.count + 1)) e ∙ header_back_over h f.0 f.1 out

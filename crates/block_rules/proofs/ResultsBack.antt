@@ -1,6 +1,6 @@
 -- Result and summary blocks read back: the same words, and decimals with the same m and the same e. Assumes nothing.
 use mathlib.Core.Path.{◌≡◌, refl, sym, ap, ap₂, subst, ◌∙◌}
-use mathlib.Core.List.{List, ◌++◌, append_assoc}
+use mathlib.Core.List.{List, [], ◌∷◌, ◌++◌, append_assoc}
 use mathlib.Core.Bool.{Bool, true, ◌&&◌}
 use Prim.Native.Nat.{ℕ, ◌+◌, ◌<◌, ◌%◌}
 use native.Mathlib.Omega.{arith}
@@ -18,6 +18,7 @@ use Rattle.guideline_rules.specs.declared.SideGuidelines.{SideGuidelines}
 use Rattle.sum_rules.specs.declared.SideSums.{SideSums}
 use Rattle.sum_rules.specs.declared.Verdict.{Verdict}
 use Rattle.sum_rules.specs.Verdict.{verdict_number}
+use Rattle.sum_rules.specs.Promise.{SideSent, sent_of}
 use Rattle.sum_rules.proofs.AnswerBounds.{verdict_most}
 use Rattle.block_rules.specs.Layouts.{last_word, body_of, unused_of, guideline_decimals, result_block, summary_decimals, summary_block}
 use Rattle.block_rules.proofs.ReadBack.{zeros_long, kind_back, first_back, second_back, decimals_back, unused_back, ending_back, block_length, block_sum, sound_back, record_unused_back}
@@ -70,15 +71,15 @@ module _ (place class id : ℕ) (risk hazard : SideGuidelines) where
   }
 
 -- ---- kind 4: what stands in the block b. Every e is from -999 to 999
-pub record SummaryRead (b : List ℕ) (risk hazard : SideSums) : Type 0 where
+pub record SummaryRead (b : List ℕ) (risk hazard : SideSent) : Type 0 where
   pub long : length b ≡ 512
   pub kind : word_at b 0 ≡ 4
   pub sound : sound_at b 0 ≡ true
-  pub decimals : decimals_at b 16 4 ≡ summary_decimals risk hazard
+  pub decimals : decimals_at b 16 4 ≡ risk.lower ∷ (risk.upper ∷ (hazard.lower ∷ (hazard.upper ∷ [])))
   pub in_range_lem : (n : ℕ) → InField (get_or (decimals_at b 16 4) n zero_of)
   pub unused : unused_in summary_pieces b 8 ≡ true
-  pub risk_verdict : word_at b 48 ≡ verdict_number risk.verdict
-  pub hazard_verdict : word_at b 52 ≡ verdict_number hazard.verdict
+  pub risk_verdict : word_at b 48 ≡ risk.verdict
+  pub hazard_verdict : word_at b 52 ≡ hazard.verdict
   pub words : (word_at b 8 ≡ 0) × (word_at b 12 ≡ 0)
 
 -- a verdict's number is a word
@@ -137,7 +138,7 @@ module _ (risk hazard : SideSums) where
   unfolding summary_block
   sums_read f = decimals_back 4 0 0 0 ds after f
 
-  pub summary_back : ((n : ℕ) → InField (get_or (summary_decimals risk hazard) n zero_of)) → SummaryRead (summary_block risk hazard) risk hazard
+  pub summary_back : ((n : ℕ) → InField (get_or (summary_decimals risk hazard) n zero_of)) → SummaryRead (summary_block risk hazard) (sent_of risk) (sent_of hazard)
   unfolding summary_block unused_in
   summary_back f = record {
     long = summary_length;

@@ -1,9 +1,9 @@
 -- What the writers of kinds 1 and 2 send back and leave: 10, then 4, then (header) 6; a refused writer writes nothing.
-use Rattle.std.specs.Prelude.{ℕ, List, [], ◌∷◌, Bool, ◌&&◌, not, cond, length, eqb, ltb}
+use Rattle.std.specs.Prelude.{ℕ, List, [], ◌∷◌, Bool, ◌&&◌, not, length, ltb, Result, Ok, Err, ⊤}
 use Rattle.outcome.specs.declared.Refusal.{Refusal}
 use Rattle.outcome.specs.declared.Refusal.TheVariants.{Field, Room}
-use Rattle.outcome.specs.declared.Answer.{Answer}
-use Rattle.outcome.specs.Outcome.{number_of, answer, Test, test, refused_by}
+use Rattle.outcome.specs.declared.Refused.{Refused}
+use Rattle.outcome.specs.Outcome.{located, Test, test, refused_by}
 use Rattle.words.specs.Bytes.{over}
 use Rattle.inputs.specs.declared.Contaminant.{Contaminant}
 use Rattle.inputs.specs.Rules.{scenario_fits, scenario_tests, contaminant_fits}
@@ -23,25 +23,26 @@ contaminant_fit place r = in_file place && contaminant_fits r
 abbrev pub header_tests : ℕ → Header → List Test
 header_tests room h = test Room (ltb room block_size) ∷ test Field (not (in_file h.count)) ∷ scenario_tests h.scenario h.medium
 
-unfoldable pub header_refusal : ℕ → Header → Refusal
+unfoldable pub header_refusal : ℕ → Header → Result ⊤ Refusal
 header_refusal room h = refused_by (header_tests room h)
 
 abbrev pub contaminant_tests : ℕ → ℕ → Contaminant → List Test
 contaminant_tests room place r = test Room (ltb room block_size) ∷ test Field (not (contaminant_fit place r)) ∷ []
 
-unfoldable pub contaminant_refusal : ℕ → ℕ → Contaminant → Refusal
+unfoldable pub contaminant_refusal : ℕ → ℕ → Contaminant → Result ⊤ Refusal
 contaminant_refusal room place r = refused_by (contaminant_tests room place r)
 
 -- a writer's block is always 0
-abbrev pub header_answer : ℕ → Header → Answer
-header_answer room h = answer (header_refusal room h) 0
+abbrev pub header_answer : ℕ → Header → Result ⊤ Refused
+header_answer room h = located (header_refusal room h) 0
 
-abbrev pub contaminant_answer : ℕ → ℕ → Contaminant → Answer
-contaminant_answer room place r = answer (contaminant_refusal room place r) 0
+abbrev pub contaminant_answer : ℕ → ℕ → Contaminant → Result ⊤ Refused
+contaminant_answer room place r = located (contaminant_refusal room place r) 0
 
 -- what is left where a block was to be written over the first bytes of `out`
-unfoldable pub left_by : Refusal → List ℕ → List ℕ → List ℕ
-left_by refusal block out = cond (eqb (number_of refusal) 0) (over block out) out
+unfoldable pub left_by : {E : Type 0} → Result ⊤ E → List ℕ → List ℕ → List ℕ
+left_by (Ok x) block out = over block out
+left_by (Err e) block out = out
 
 unfoldable pub header_left : List ℕ → Header → List ℕ
 header_left out h = left_by (header_refusal (length out) h) (header_block h) out

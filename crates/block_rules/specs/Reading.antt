@@ -1,7 +1,7 @@
 -- What a header block and a contaminant block hold, and what is sent back of one that breaks a rule, in the order of the specification.
-use Rattle.std.specs.Prelude.{ℕ, ◌+◌, ◌%◌, List, Bool, ◌&&◌, not, cond, length, eqb, leb}
+use Rattle.std.specs.Prelude.{ℕ, ◌+◌, ◌%◌, List, Bool, ◌&&◌, not, cond, length, eqb, leb, Result, Ok, Err}
 use Rattle.outcome.specs.declared.Refusal.TheVariants.{Length, Check, Kind, Field, Count, Factor, Order}
-use Rattle.outcome.specs.Outcome.{number_of}
+use Rattle.outcome.specs.declared.Refusal.{Refusal}
 use Rattle.words.specs.Words.{word_at, word_sum}
 use Rattle.fields.specs.Fields.{decimals_at}
 use Rattle.inputs.specs.declared.Scenario.{Scenario}
@@ -10,10 +10,6 @@ use Rattle.inputs.specs.Inputs.{scenario_places, contaminant_places, scenario_of
 use Rattle.inputs.specs.BuiltIn.{blank, no_contaminant}
 use Rattle.inputs.specs.Rules.{scenario_fits, contaminant_fits, lacks_factor}
 use Rattle.block_rules.specs.declared.Header.{Header}
-use Rattle.block_rules.specs.declared.HeaderRead.{HeaderRead}
-use Rattle.block_rules.specs.declared.HeaderRead.TheVariants as H
-use Rattle.block_rules.specs.declared.ContaminantRead.{ContaminantRead}
-use Rattle.block_rules.specs.declared.ContaminantRead.TheVariants as C
 use Rattle.block_rules.specs.Rules.{count_ok, block_size}
 use Rattle.block_rules.specs.Pieces.{header_pieces, contaminant_pieces, unused_in}
 
@@ -42,42 +38,34 @@ unfoldable pub sound_at : List ℕ → ℕ → Bool
 sound_at b place = eqb (word_sum b 128 % 4294967296) 0 && eqb (word_at b 4) place
 
 -- the header block b of a site of so many blocks: what it holds, or 2 to 6. What is no block of 512 bytes is refused by 1
-unfoldable pub header_read : List ℕ → ℕ → HeaderRead
+unfoldable pub header_read : List ℕ → ℕ → Result Header Refusal
 header_read b blocks =
-    cond (not (eqb (length b) block_size)) (H.Refused Length)
-    (cond (not (sound_at b 0)) (H.Refused Check)
-    (cond (not (eqb (word_at b 0) 1)) (H.Refused Kind)
-    (cond (not (scenario_fits (scenario_at b 16) (word_at b 8) && header_unused b 8)) (H.Refused Field)
-    (cond (not (count_ok (word_at b 12) blocks)) (H.Refused Count)
-    (cond (lacks_factor (scenario_at b 16)) (H.Refused Factor)
-    (H.Found (header_at b 8)))))))
+    cond (not (eqb (length b) block_size)) (Err Length)
+    (cond (not (sound_at b 0)) (Err Check)
+    (cond (not (eqb (word_at b 0) 1)) (Err Kind)
+    (cond (not (scenario_fits (scenario_at b 16) (word_at b 8) && header_unused b 8)) (Err Field)
+    (cond (not (count_ok (word_at b 12) blocks)) (Err Count)
+    (cond (lacks_factor (scenario_at b 16)) (Err Factor)
+    (Ok (header_at b 8)))))))
 
 -- the contaminant block b at a place, after the previous id: what it holds, or 2, 3, 4, 7
-unfoldable pub contaminant_read : List ℕ → ℕ → ℕ → ContaminantRead
+unfoldable pub contaminant_read : List ℕ → ℕ → ℕ → Result Contaminant Refusal
 contaminant_read b place previous =
-    cond (not (eqb (length b) block_size)) (C.Refused Length)
-    (cond (not (sound_at b place)) (C.Refused Check)
-    (cond (not (eqb (word_at b 0) 2)) (C.Refused Kind)
-    (cond (not (contaminant_fits (contaminant_at b 8) && contaminant_unused b 8)) (C.Refused Field)
-    (cond (leb (word_at b 12) previous) (C.Refused Order)
-    (C.Found (contaminant_at b 8))))))
+    cond (not (eqb (length b) block_size)) (Err Length)
+    (cond (not (sound_at b place)) (Err Check)
+    (cond (not (eqb (word_at b 0) 2)) (Err Kind)
+    (cond (not (contaminant_fits (contaminant_at b 8) && contaminant_unused b 8)) (Err Field)
+    (cond (leb (word_at b 12) previous) (Err Order)
+    (Ok (contaminant_at b 8))))))
 
--- ---- the number and the value of each case: number 0 with what the block holds, or a refusal's number with zeros
-abbrev pub header_number : HeaderRead → ℕ
-header_number (H.Found h) = 0
-header_number (H.Refused n) = number_of n
-
+-- ---- the value of each case, whose number is `tests_number`: number 0 with what the block holds, or a refusal's number with zeros
 abbrev pub no_header : Header
 no_header = record { medium = 0; count = 0; scenario = blank }
 
-abbrev pub header_value : HeaderRead → Header
-header_value (H.Found h) = h
-header_value (H.Refused n) = no_header
+abbrev pub header_value : Result Header Refusal → Header
+header_value (Ok h) = h
+header_value (Err n) = no_header
 
-abbrev pub contaminant_number : ContaminantRead → ℕ
-contaminant_number (C.Found r) = 0
-contaminant_number (C.Refused n) = number_of n
-
-abbrev pub contaminant_value : ContaminantRead → Contaminant
-contaminant_value (C.Found r) = r
-contaminant_value (C.Refused n) = no_contaminant
+abbrev pub contaminant_value : Result Contaminant Refusal → Contaminant
+contaminant_value (Ok r) = r
+contaminant_value (Err n) = no_contaminant

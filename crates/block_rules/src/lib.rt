@@ -1,8 +1,7 @@
-// What is read from a block. The layouts are in specs/, what is read back of them in proofs/; there is no function.
+// What a header block holds. The layouts are in specs/, what is read back of them in proofs/; there is no function.
 #![tactic(auto)]
 
-use inputs::{Contaminant, Scenario};
-use outcome::Refusal;
+use inputs::Scenario;
 
 // The bytes of a block.
 pub const BLOCK_SIZE: usize = 512;
@@ -16,18 +15,4 @@ pub struct Header {
     pub medium: u32,
     pub count: u32,
     pub scenario: Scenario,
-}
-
-// A header, or why its block is refused.
-#[derive(Clone, Copy)]
-pub enum HeaderRead {
-    Found(Header),
-    Refused(Refusal),
-}
-
-// A contaminant, or why its block is refused.
-#[derive(Clone, Copy)]
-pub enum ContaminantRead {
-    Found(Contaminant),
-    Refused(Refusal),
 }

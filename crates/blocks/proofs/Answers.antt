@@ -1,4 +1,5 @@
 -- What the readers answer once each test has gone one way or the other. Assumes nothing.
+use Rattle.std.specs.Prelude.{Ok, Err}
 use mathlib.Core.Path.{◌≡◌, sym, ap, ap₂, ◌∙◌}
 use mathlib.Core.List.{List}
 use mathlib.Core.Bool.{Bool, true, false, ◌&&◌}
@@ -14,8 +15,6 @@ use Rattle.inputs.specs.declared.Contaminant.{Contaminant}
 use Rattle.inputs.specs.Inputs.{contaminant_of}
 use Rattle.inputs.specs.Rules.{scenario_fits, contaminant_fits, lacks_factor}
 use Rattle.block_rules.specs.declared.Header.{Header}
-use Rattle.block_rules.specs.declared.HeaderRead.TheVariants as H
-use Rattle.block_rules.specs.declared.ContaminantRead.TheVariants as C
 use Rattle.block_rules.specs.Rules.{count_ok}
 use Rattle.block_rules.specs.Reading.{scenario_at, header_at, header_unused, contaminant_at, contaminant_unused, sound_at, header_read, contaminant_read}
 use Rattle.blocks.proofs.Parts.{inner, inner_first, whole, contaminant_part, contaminant_unused_part, header_part, header_unused_part}
@@ -62,20 +61,20 @@ module _ (s : List ℕ) where
 
 -- ---- a contaminant
 module _ (b : List ℕ) (place previous : ℕ) where
-  pub contaminant_short : eqb (length b) 512 ≡ false → C.Refused Length ≡ contaminant_read b place previous
+  pub contaminant_short : eqb (length b) 512 ≡ false → Err Length ≡ contaminant_read b place previous
   unfolding contaminant_read
   contaminant_short n = simp n
 
-  pub contaminant_check : eqb (length b) 512 ≡ true → sound_at b place ≡ false → C.Refused Check ≡ contaminant_read b place previous
+  pub contaminant_check : eqb (length b) 512 ≡ true → sound_at b place ≡ false → Err Check ≡ contaminant_read b place previous
   unfolding contaminant_read
   contaminant_check n s = simp (n, s)
 
-  pub contaminant_kind : eqb (length b) 512 ≡ true → sound_at b place ≡ true → eqb (word_at b 0) 2 ≡ false → C.Refused Kind ≡ contaminant_read b place previous
+  pub contaminant_kind : eqb (length b) 512 ≡ true → sound_at b place ≡ true → eqb (word_at b 0) 2 ≡ false → Err Kind ≡ contaminant_read b place previous
   unfolding contaminant_read
   contaminant_kind n s k = simp (n, s, k)
 
   module _ (p : Passed b place 2) (r : Contaminant) (is : r ≡ contaminant_at b 8) where
-    pub contaminant_field : contaminant_fits r && contaminant_unused b 8 ≡ false → C.Refused Field ≡ contaminant_read b place previous
+    pub contaminant_field : contaminant_fits r && contaminant_unused b 8 ≡ false → Err Field ≡ contaminant_read b place previous
     unfolding contaminant_read
     contaminant_field h = let f = rw is at h in simp (p.long, p.sound, p.first, f)
 
@@ -83,25 +82,25 @@ module _ (b : List ℕ) (place previous : ℕ) where
     unfolding contaminant_at contaminant_of
     id_is t h = ap (λ (x : Contaminant). leb x.id previous) (sym is) ∙ h
 
-    pub contaminant_order : contaminant_fits r && contaminant_unused b 8 ≡ true → leb r.id previous ≡ true → C.Refused Order ≡ contaminant_read b place previous
+    pub contaminant_order : contaminant_fits r && contaminant_unused b 8 ≡ true → leb r.id previous ≡ true → Err Order ≡ contaminant_read b place previous
     unfolding contaminant_read
     contaminant_order h i = let f = rw is at h in let o = id_is true i in simp (p.long, p.sound, p.first, f, o)
 
-    pub contaminant_found : contaminant_fits r && contaminant_unused b 8 ≡ true → leb r.id previous ≡ false → C.Found r ≡ contaminant_read b place previous
+    pub contaminant_found : contaminant_fits r && contaminant_unused b 8 ≡ true → leb r.id previous ≡ false → Ok r ≡ contaminant_read b place previous
     unfolding contaminant_read
-    contaminant_found h i = let f = rw is at h in let o = id_is false i in ap C.Found is ∙ simp (p.long, p.sound, p.first, f, o)
+    contaminant_found h i = let f = rw is at h in let o = id_is false i in ap Ok is ∙ simp (p.long, p.sound, p.first, f, o)
 
 -- ---- a header
 module _ (b : List ℕ) (blocks : ℕ) where
-  pub header_short : eqb (length b) 512 ≡ false → H.Refused Length ≡ header_read b blocks
+  pub header_short : eqb (length b) 512 ≡ false → Err Length ≡ header_read b blocks
   unfolding header_read
   header_short n = simp n
 
-  pub header_check : eqb (length b) 512 ≡ true → sound_at b 0 ≡ false → H.Refused Check ≡ header_read b blocks
+  pub header_check : eqb (length b) 512 ≡ true → sound_at b 0 ≡ false → Err Check ≡ header_read b blocks
   unfolding header_read
   header_check n s = simp (n, s)
 
-  pub header_kind : eqb (length b) 512 ≡ true → sound_at b 0 ≡ true → eqb (word_at b 0) 1 ≡ false → H.Refused Kind ≡ header_read b blocks
+  pub header_kind : eqb (length b) 512 ≡ true → sound_at b 0 ≡ true → eqb (word_at b 0) 1 ≡ false → Err Kind ≡ header_read b blocks
   unfolding header_read
   header_kind n s k = simp (n, s, k)
 
@@ -110,7 +109,7 @@ module _ (b : List ℕ) (blocks : ℕ) where
     unfolding header_at
     fields_are t e = ap (λ (x : Header). scenario_fits x.scenario x.medium && header_unused b 8) (sym is) ∙ e
 
-    pub header_field : scenario_fits h.scenario h.medium && header_unused b 8 ≡ false → H.Refused Field ≡ header_read b blocks
+    pub header_field : scenario_fits h.scenario h.medium && header_unused b 8 ≡ false → Err Field ≡ header_read b blocks
     unfolding header_read
     header_field v = let f = fields_are false v in simp (p.long, p.sound, p.first, f)
 
@@ -123,14 +122,14 @@ module _ (b : List ℕ) (blocks : ℕ) where
     factors_are t e = ap (λ (x : Header). lacks_factor x.scenario) (sym is) ∙ e
 
     module _ (v : scenario_fits h.scenario h.medium && header_unused b 8 ≡ true) where
-      pub header_count : count_ok h.count blocks ≡ false → H.Refused Count ≡ header_read b blocks
+      pub header_count : count_ok h.count blocks ≡ false → Err Count ≡ header_read b blocks
       unfolding header_read
       header_count n = let f = fields_are true v in let k = count_is false n in simp (p.long, p.sound, p.first, f, k)
 
-      pub header_factor : count_ok h.count blocks ≡ true → lacks_factor h.scenario ≡ true → H.Refused Factor ≡ header_read b blocks
+      pub header_factor : count_ok h.count blocks ≡ true → lacks_factor h.scenario ≡ true → Err Factor ≡ header_read b blocks
       unfolding header_read
       header_factor n m = let f = fields_are true v in let k = count_is true n in let x = factors_are true m in simp (p.long, p.sound, p.first, f, k, x)
 
-      pub header_found : count_ok h.count blocks ≡ true → lacks_factor h.scenario ≡ false → H.Found h ≡ header_read b blocks
+      pub header_found : count_ok h.count blocks ≡ true → lacks_factor h.scenario ≡ false → Ok h ≡ header_read b blocks
       unfolding header_read
-      header_found n m = let f = fields_are true v in let k = count_is true n in let x = factors_are false m in ap H.Found is ∙ simp (p.long, p.sound, p.first, f, k, x)
+      header_found n m = let f = fields_are true v in let k = count_is true n in let x = factors_are false m in ap Ok is ∙ simp (p.long, p.sound, p.first, f, k, x)

@@ -6,7 +6,7 @@ ghost use Rattle.words.specs.Words.{part_of};
 ghost use Rattle.block_rules.specs.Rules.{in_file, count_ok, block_size, struct_size};
 ghost use Rattle.block_rules.specs.Reading.{scenario_at, header_at, contaminant_at, header_unused, contaminant_unused, sound_at, header_read, contaminant_read};
 
-use block_rules::{BLOCK_SIZE, ContaminantRead, Header, HeaderRead};
+use block_rules::{BLOCK_SIZE, Header};
 use inputs::{Contaminant, MOST_CONTAMINANTS, Scenario};
 use outcome::Refusal;
 
@@ -109,56 +109,56 @@ pub fn contaminant_unused(part: &[u8], at: usize) -> bool
 }
 
 // The header of a site of so many blocks: its first 512 bytes.
-pub fn read_header(site: &[u8], blocks: u32) -> HeaderRead
+pub fn read_header(site: &[u8], blocks: u32) -> Result<Header, Refusal>
     ensures { result ≡ header_read (part_of site.now 0 block_size) blocks }
 {
     if !has_block(site, 0) {
-        return HeaderRead::Refused(Refusal::Length);
+        return Err(Refusal::Length);
     }
     if !sound(&site[0..BLOCK_SIZE], 0) {
-        return HeaderRead::Refused(Refusal::Check);
+        return Err(Refusal::Check);
     }
     if words::word(site, 0) != 1 {
-        return HeaderRead::Refused(Refusal::Kind);
+        return Err(Refusal::Kind);
     }
     let part = &site[4..508];
     let h = get_header(part, 4);
     let s = h.scenario;
     if !inputs::both(inputs::scenario_fits(s, h.medium), header_unused(part, 4)) {
-        return HeaderRead::Refused(Refusal::Field);
+        return Err(Refusal::Field);
     }
     if !count_ok(h.count, blocks) {
-        return HeaderRead::Refused(Refusal::Count);
+        return Err(Refusal::Count);
     }
     if inputs::lacks_factor(s) {
-        return HeaderRead::Refused(Refusal::Factor);
+        return Err(Refusal::Factor);
     }
-    HeaderRead::Found(h)
+    Ok(h)
 }
 
 // The contaminant in the block at `at`, which is to have this place and an id above the one before.
-pub fn read_contaminant(site: &[u8], at: usize, place: u32, previous: u32) -> ContaminantRead
+pub fn read_contaminant(site: &[u8], at: usize, place: u32, previous: u32) -> Result<Contaminant, Refusal>
     ensures { result ≡ contaminant_read (part_of site.now at block_size) place previous }
 {
     if !has_block(site, at) {
-        return ContaminantRead::Refused(Refusal::Length);
+        return Err(Refusal::Length);
     }
     let end = at + BLOCK_SIZE;
     if !sound(&site[at..end], place) {
-        return ContaminantRead::Refused(Refusal::Check);
+        return Err(Refusal::Check);
     }
     if words::word(site, at) != 2 {
-        return ContaminantRead::Refused(Refusal::Kind);
+        return Err(Refusal::Kind);
     }
     let from = at + 4;
     let to = at + 508;
     let part = &site[from..to];
     let r = get_contaminant(part, 4);
     if !inputs::both(inputs::contaminant_fits(r), contaminant_unused(part, 4)) {
-        return ContaminantRead::Refused(Refusal::Field);
+        return Err(Refusal::Field);
     }
     if r.id <= previous {
-        return ContaminantRead::Refused(Refusal::Order);
+        return Err(Refusal::Order);
     }
-    ContaminantRead::Found(r)
+    Ok(r)
 }

@@ -1,6 +1,7 @@
 -- The numbers of what is sent back: a refusal's is from 1 to the greatest, so that an answer with number 0 is accepted and any other is refused.
 -- Assumes nothing.
-use Rattle.std.proofs.Common.{◌≡◌, ℕ, ◌≤◌, refl, subst, arith}
+use Rattle.std.proofs.Common.{◌≡◌, ℕ, ◌≤◌, refl, ap, subst, arith}
+use Rattle.std.specs.Result.{result_unwrap_or}
 use Rattle.std.specs.Prelude.{Result, Ok, Err, MatchResult, ⊤}
 use Rattle.outcome.specs.declared.Refusal.{Refusal}
 use Rattle.outcome.specs.declared.Refused.{Refused}
@@ -10,6 +11,9 @@ use Rattle.outcome.specs.Outcome.{refusal_number, number_of, most_number}
 -- no answer is both
 pub not_both : {A E : Type 0} {a : A} {e : E} → Ok a ≡ Err e → ⊥
 not_both {A} {E} h = subst (λ (x : Result A E). MatchResult x (λ _. ⊤) (λ _. ⊥)) h tt
+
+pub same_value : {A E : Type 0} {a b : A} → ◌≡◌ {A = Result A E} (Ok a) (Ok b) → a ≡ b
+same_value {A} {E} {a} h = ap (λ (x : Result A E). result_unwrap_or x a) h
 
 pub record Numbered (n : ℕ) : Type 0 where
   pub some : n ≡ 0 → ⊥

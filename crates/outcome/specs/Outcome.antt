@@ -38,6 +38,16 @@ abbrev pub block_of : {A : Type 0} → Result A Refused → ℕ
 block_of (Ok a) = 0
 block_of (Err r) = r.block
 
+-- an answer without its value
+abbrev pub answered : {A : Type 0} → Result A Refused → Result ⊤ Refused
+answered (Ok a) = Ok tt
+answered (Err r) = Err r
+
+-- the number of what tests answer that know no block
+abbrev pub tests_number : {A : Type 0} → Result A Refusal → ℕ
+tests_number (Ok a) = 0
+tests_number (Err n) = refusal_number n
+
 -- ---- tests in the order in which they are made: the first that holds is sent back
 pub record Test : Type 0 where
   pub refusal : Refusal

@@ -4,27 +4,26 @@ use mathlib.Core.Bool.{Bool, true, false, cond}
 use mathlib.Core.List.{List}
 use Prim.Native.Nat.{ℕ, zero, suc, ◌+◌, ◌/◌, ◌≤◌, ◌<◌}
 use native.Mathlib.Omega.{arith}
-use lib.Dec.{eqb, ltb}
+use lib.Dec.{ltb}
 use lib.ListN.{length}
 use Rattle.outcome.specs.declared.Refusal.{Refusal}
 use Rattle.outcome.specs.declared.Refusal.TheVariants.{Length, Room}
-use Rattle.outcome.specs.Outcome.{number_of}
+use Rattle.std.specs.Prelude.{Result, Ok, Err, ⊤}
+use Rattle.outcome.specs.declared.Refused.{Refused}
+use Rattle.outcome.specs.Outcome.{refusal_number, number_of, block_of, refused, passing}
 use Rattle.inputs.specs.declared.Scenario.{Scenario}
 use Rattle.inputs.specs.declared.Contaminant.{Contaminant}
 use Rattle.inputs.specs.Rules.{scenario_fits, lacks_factor, most_contaminants}
 use Rattle.block_rules.specs.declared.Header.{Header}
-use Rattle.block_rules.specs.declared.HeaderRead.{HeaderRead}
-use Rattle.block_rules.specs.declared.HeaderRead.TheVariants as H
-use Rattle.block_rules.specs.declared.ContaminantRead.{ContaminantRead}
-use Rattle.block_rules.specs.declared.ContaminantRead.TheVariants as C
 use Rattle.block_rules.specs.Reading.{header_read, contaminant_read}
 use Rattle.block_rules.proofs.Found.{header_sent, contaminant_sent}
-use Rattle.formulas.specs.Side.{Risk, Hazard}
+use Rattle.formulas.specs.Side.{Side, Risk, Hazard}
 use Rattle.guideline_rules.specs.Pathway.{record_refusal}
 use Rattle.guideline_rules.proofs.Accepted.{accepted_inputs}
-use Rattle.sum_rules.specs.declared.SumsAnswer.{SumsAnswer}
+use Rattle.sum_rules.specs.declared.Sums.{Sums}
 use Rattle.sum_rules.specs.Share.{Running, start, next}
-use Rattle.sum_rules.specs.ListCall.{block_ranged, refused, taken_in}
+use Rattle.sum_rules.specs.ListCall.{block_ranged, taken_in}
+use Rattle.sum_rules.specs.Promise.{side_at, side_sent}
 use Rattle.sum_rules.proofs.TakenIn.{taken_ranged}
 use Rattle.sum_rules.proofs.NeverOutOfRange.{record_told}
 use Rattle.outcome.proofs.Numbers.{number_most}
@@ -32,37 +31,36 @@ use Rattle.sum_rules.proofs.AnswerBounds.{verdict_most}
 use Rattle.sum_rules.proofs.InRange.{FairRun, fair_start, fair_next, in_range_lem}
 use Rattle.site_rules.specs.Blocks.{length_ok, block_at}
 use Rattle.site_rules.specs.Site.{site_answer}
-use Rattle.site_rules.proofs.Walk.{on_contaminant, walk_blocks, with_room}
+use Rattle.site_rules.proofs.Walk.{on_read, walk_blocks, with_room}
 use Rattle.site_rules.specs.Passed.{Opened}
 use Rattle.site_rules.specs.Bounds.{Bounded}
 use Rattle.site_rules.proofs.Opened.{found_record, opened_fits, opened_known, count_most, answer_length, answer_header, answer_walked}
 
 -- a block before place n, and a number that is not 9
-record Small (n : ℕ) (a : SumsAnswer) : Type 0 where
-  block : a.block < n
-  not_range : number_of a.refusal ≡ 9 → ⊥
+record Small (n : ℕ) (a : Result Sums Refused) : Type 0 where
+  block : block_of a < n
+  not_range : number_of a ≡ 9 → ⊥
 
 -- ---- the walk over n blocks, the first at place k
-small_one : (n : ℕ) (b : Bool) (v w : SumsAnswer) → Small n v → Small n w → Small n (cond b v w)
-small_one n true v w f g = f
-small_one n false v w f g = g
+-- behind tests of the block k that send no 9 back
+small_behind : (n k : ℕ) (x : Result ⊤ Refusal) (w : Result Sums Refused) → ((m : Refusal) → x ≡ Err m → refusal_number m ≡ 9 → ⊥) → k < n → Small n w → Small n (passing x k w)
+small_behind n k (Ok u) w h l again = again
+small_behind n k (Err m) w h l again = record { block = l; not_range = h m refl }
 
-taken_small : (s : Scenario) (medium n k : ℕ) (risk hazard : Running) (r : Contaminant) (w : SumsAnswer) → k < n → block_ranged s medium risk hazard r ≡ true →
+taken_small : (s : Scenario) (medium n k : ℕ) (risk hazard : Running) (r : Contaminant) (w : Result Sums Refused) → k < n → block_ranged s medium risk hazard r ≡ true →
     Small n w → Small n (taken_in s medium k risk hazard r w)
 taken_small s medium n k risk hazard r w l e again =
-    let m = record_refusal s medium r in
-    subst (Small n) (sym (taken_ranged s medium k risk hazard r w e))
-    (small_one n (eqb (number_of m) 0) w (refused m k) again (record { block = l; not_range = record_told s medium r }))
+    subst (Small n) (sym (taken_ranged s medium k risk hazard r w e)) (small_behind n k (record_refusal s medium r) w (record_told s medium r) l again)
 
 module _ (s : Scenario) (medium : ℕ) (site : List ℕ) (fits : scenario_fits s medium ≡ true) (known : lacks_factor s ≡ false) where
   by_read : (n k before j : ℕ) (risk hazard : Running) → j < most_contaminants → FairRun j risk → FairRun j hazard →
       ((id : ℕ) (x y : Running) → FairRun (j + 1) x → FairRun (j + 1) y → Small (k + 1 + n) (walk_blocks s medium site n (k + 1) id x y)) →
-      (x : ContaminantRead) → contaminant_read (block_at site k) k before ≡ x →
-      Small (k + suc n) (on_contaminant x (λ (m : Refusal). refused m k)
+      (x : Result Contaminant Refusal) → contaminant_read (block_at site k) k before ≡ x →
+      Small (k + suc n) (on_read x (λ (m : Refusal). refused m k)
       (λ (r : Contaminant). taken_in s medium k risk hazard r (walk_blocks s medium site n (k + 1) r.id (next s medium Risk risk r) (next s medium Hazard hazard r))))
-  by_read n k before j risk hazard l f g again (C.Refused m) e =
+  by_read n k before j risk hazard l f g again (Err m) e =
       record { block = omega arith; not_range = λ h. omega (arith, h, (contaminant_sent (block_at site k) k before m e).most) }
-  by_read n k before j risk hazard l f g again (C.Found r) e =
+  by_read n k before j risk hazard l f g again (Ok r) e =
       let v = (found_record site k before r e).valid in
       let a = accepted_inputs s medium r fits known v in
       let x = fair_next s medium Risk r a (omega arith) f in
@@ -80,17 +78,22 @@ module _ (s : Scenario) (medium : ℕ) (site : List ℕ) (fits : scenario_fits s
       (contaminant_read (block_at site k) k before) refl
 
 -- ---- the whole site
-at_start : (n : ℕ) (m : Refusal) → (number_of m ≡ 9 → ⊥) → Small (suc n) (refused m 0)
+at_start : (n : ℕ) (m : Refusal) → (refusal_number m ≡ 9 → ⊥) → Small (suc n) (refused m 0)
 at_start n m h = record { block = omega arith; not_range = h }
 
-room_small : (site out : ℕ) (a : SumsAnswer) → Small 121 a → Small 121 (with_room site out a)
+room_small : (site out : ℕ) (a : Result Sums Refused) → Small 121 a → Small 121 (with_room site out a)
 unfolding with_room
-room_small site out a h = cases (eqb (number_of a.refusal) 0) (ltb out site)
+room_small site out (Ok a) h = cases (ltb out site)
   where
-    cases : (b c : Bool) → Small 121 (cond b (cond c (refused Room 0) a) a)
-    cases true true = at_start 120 Room (λ e. omega (arith, e))
-    cases true false = h
-    cases false c = h
+    cases : (c : Bool) → Small 121 (cond c (refused Room 0) (Ok a))
+    cases true = at_start 120 Room (λ e. omega (arith, e))
+    cases false = h
+room_small site out (Err r) h = h
+
+-- a verdict that is sent back
+verdict_sent : (a : Result Sums Refused) (side : Side) → (side_sent a side).verdict ≤ 4
+verdict_sent (Ok a) side = verdict_most (side_at a side).verdict
+verdict_sent (Err r) side = omega arith
 
 module _ (site : List ℕ) (out : ℕ) where
   opened_small : (h : Header) → Opened site h → Small 121 (site_answer site out)
@@ -100,11 +103,11 @@ module _ (site : List ℕ) (out : ℕ) where
       subst (Small 121) (sym (answer_walked o out))
       (room_small (length site) out _ (record { block = omega (arith, w.block, count_most o); not_range = w.not_range }))
 
-  by_header : length_ok (length site) ≡ true → (x : HeaderRead) → header_read (block_at site 0) (length site / 512) ≡ x → Small 121 (site_answer site out)
-  by_header r (H.Refused m) e =
+  by_header : length_ok (length site) ≡ true → (x : Result Header Refusal) → header_read (block_at site 0) (length site / 512) ≡ x → Small 121 (site_answer site out)
+  by_header r (Err m) e =
       subst (Small 121) (sym (answer_header site out m r e))
       (at_start 120 m (λ h. omega (arith, h, (header_sent (block_at site 0) (length site / 512) m e).most)))
-  by_header r (H.Found h) e = opened_small h (record { right = r; header = e })
+  by_header r (Ok h) e = opened_small h (record { right = r; header = e })
 
   by_length : (b : Bool) → length_ok (length site) ≡ b → Small 121 (site_answer site out)
   by_length true r = by_header r (header_read (block_at site 0) (length site / 512)) refl
@@ -115,12 +118,12 @@ module _ (site : List ℕ) (out : ℕ) where
 
   pub answer_bounded : Bounded (site_answer site out)
   answer_bounded = record {
-    number = number_most (site_answer site out).refusal;
+    number = number_most (site_answer site out);
     block = omega (arith, small.block);
-    risk = verdict_most (site_answer site out).risk.verdict;
-    hazard = verdict_most (site_answer site out).hazard.verdict;
+    risk = verdict_sent (site_answer site out) Risk;
+    hazard = verdict_sent (site_answer site out) Hazard;
   }
 
   -- REFUSAL 9 is never sent back
-  pub site_never_out_of_range : number_of (site_answer site out).refusal ≡ 9 → ⊥
+  pub site_never_out_of_range : number_of (site_answer site out) ≡ 9 → ⊥
   site_never_out_of_range = small.not_range

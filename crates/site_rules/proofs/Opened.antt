@@ -1,58 +1,53 @@
 -- A site of the right length whose header was found; what is sent back where it was not. Assumes nothing.
-use mathlib.Core.Path.{◌≡◌, sym, ap, ◌∙◌}
+use mathlib.Core.Path.{◌≡◌, refl, sym, ap, ◌∙◌}
 use mathlib.Core.Bool.{Bool, true, false, cond}
 use mathlib.Core.List.{List}
 use Prim.Native.Nat.{ℕ, ◌+◌, ◌*◌, ◌/◌, ◌≤◌}
 use native.Mathlib.Omega.{arith}
 use lib.Dec.{eqb}
 use lib.ListN.{length}
-use borrow.Author.Tests.{eqb-true, ne_eqb}
+use borrow.Author.Tests.{eqb-true}
 use Rattle.outcome.specs.declared.Refusal.{Refusal}
 use Rattle.outcome.specs.declared.Refusal.TheVariants.{Length}
-use Rattle.outcome.specs.Outcome.{number_of}
+use Rattle.std.specs.Prelude.{Ok, Err}
+use Rattle.outcome.specs.declared.Refused.{Refused}
+use Rattle.outcome.specs.Outcome.{refused}
 use Rattle.inputs.specs.Rules.{scenario_fits, lacks_factor}
 use Rattle.inputs.proofs.Tests.{and_split}
-use Rattle.words.specs.Bytes.{over}
 use Rattle.block_rules.specs.declared.Header.{Header}
-use Rattle.block_rules.specs.declared.HeaderRead.TheVariants as H
 use Rattle.block_rules.specs.Reading.{header_read, contaminant_read}
 use Rattle.block_rules.specs.Rules.{in_file, count_ok}
 use Rattle.block_rules.proofs.Found.{HeaderFacts, header_facts, ContaminantFacts, contaminant_facts}
 use Rattle.block_rules.proofs.Rules.{in_file_lem}
-use Rattle.sum_rules.specs.declared.SumsAnswer.{SumsAnswer}
 use Rattle.sum_rules.specs.Share.{start}
-use Rattle.sum_rules.specs.ListCall.{refused}
 use Rattle.site_rules.specs.Blocks.{length_ok, block_at, header_of, record_at}
 use Rattle.site_rules.specs.Site.{site_answer}
-use Rattle.site_rules.specs.Results.{results_of, site_left}
+use Rattle.site_rules.specs.Results.{site_left}
 use Rattle.site_rules.proofs.Walk.{walk_blocks, with_room, walked_answer}
 use Rattle.site_rules.proofs.WalkTable.{walked}
 use Rattle.site_rules.proofs.RightLength.{right_length}
 use Rattle.site_rules.specs.Passed.{Opened}
 use Rattle.inputs.specs.declared.Contaminant.{Contaminant}
-use Rattle.block_rules.specs.declared.ContaminantRead.TheVariants as C
 
 -- ---- a refusal leaves the output as it was
-pub left_refused : (site out : List ℕ) (a : SumsAnswer) → site_answer site (length out) ≡ a → (number_of a.refusal ≡ 0 → ⊥) → site_left site out ≡ out
+pub left_refused : (site out : List ℕ) {r : Refused} → site_answer site (length out) ≡ Err r → site_left site out ≡ out
 unfolding site_left
-left_refused site out a e n =
-    ap (λ (x : SumsAnswer). cond (eqb (number_of x.refusal) 0) (over (results_of site x) out) out) e ∙
-    ap (λ (b : Bool). cond b (over (results_of site a) out) out) (ne_eqb (number_of a.refusal) 0 n)
+left_refused site out e = rw e refl
 
 pub answer_length : (site : List ℕ) (out : ℕ) → length_ok (length site) ≡ false → site_answer site out ≡ refused Length 0
 unfolding walked_answer
 answer_length site out e = walked site out ∙ rw e
 
-pub answer_header : (site : List ℕ) (out : ℕ) (m : Refusal) → length_ok (length site) ≡ true → header_read (block_at site 0) (length site / 512) ≡ H.Refused m →
+pub answer_header : (site : List ℕ) (out : ℕ) (m : Refusal) → length_ok (length site) ≡ true → header_read (block_at site 0) (length site / 512) ≡ Err m →
     site_answer site out ≡ refused m 0
 unfolding walked_answer
 answer_header site out m e h = walked site out ∙ rw (e, h)
 
 -- a contaminant that was found is the record of its block, and keeps its rules
-pub found_record : (site : List ℕ) (k before : ℕ) (r : Contaminant) → contaminant_read (block_at site k) k before ≡ C.Found r → ContaminantFacts (block_at site k) before r
+pub found_record : (site : List ℕ) (k before : ℕ) (r : Contaminant) → contaminant_read (block_at site k) k before ≡ Ok r → ContaminantFacts (block_at site k) before r
 found_record site k before r e = contaminant_facts (block_at site k) k before r e
 
-pub found_is : (site : List ℕ) (k before : ℕ) (r : Contaminant) → contaminant_read (block_at site k) k before ≡ C.Found r → r ≡ record_at site k
+pub found_is : (site : List ℕ) (k before : ℕ) (r : Contaminant) → contaminant_read (block_at site k) k before ≡ Ok r → r ≡ record_at site k
 unfolding record_at
 found_is site k before r e = (contaminant_facts (block_at site k) k before r e).is
 

@@ -9,17 +9,20 @@ use lib.Dec.{eqb}
 use lib.ListN.{length, take, drop, length-append}
 use lib.Seq.{take_at, drop_at}
 use borrow.Author.Tests.{eqb-true, eqb-false}
+use Rattle.std.specs.Prelude.{Result, Ok, Err}
+use Rattle.outcome.specs.declared.Refused.{Refused}
 use Rattle.outcome.specs.Outcome.{number_of}
+use Rattle.outcome.proofs.Numbers.{accepted_value, same_value}
 use Rattle.inputs.specs.declared.Scenario.{Scenario}
 use Rattle.words.specs.Words.{part_of}
 use Rattle.words.specs.Bytes.{over}
 use Rattle.words.proofs.Written.{over_length}
-use Rattle.sum_rules.specs.declared.SumsAnswer.{SumsAnswer}
+use Rattle.sum_rules.specs.declared.Sums.{Sums}
 use Rattle.block_rules.specs.Layouts.{summary_block}
 use Rattle.block_rules.proofs.ResultsBack.{result_length, summary_length}
 use Rattle.site_rules.specs.Blocks.{block_at, header_of}
 use Rattle.site_rules.specs.Site.{site_answer}
-use Rattle.site_rules.specs.Results.{result_at, results_to, results_of, site_left}
+use Rattle.site_rules.specs.Results.{result_at, results_to, results_of, left_of, site_left}
 use Rattle.site_rules.proofs.Opened.{site_long, left_refused}
 use Rattle.site_rules.proofs.Passed.{passed_site}
 
@@ -60,9 +63,12 @@ module _ (s : Scenario) (medium : ℕ) (site : List ℕ) where
       last_or_before n k p q e u (λ v. block_there n k l v p (w ++ q) e) (eqb k (suc n)) refl
 
 -- ---- an accepted site
-module _ (site out : List ℕ) (z : number_of (site_answer site (length out)).refusal ≡ 0) where
-  abbrev a : SumsAnswer
-  a = site_answer site (length out)
+module _ (site out : List ℕ) (z : number_of (site_answer site (length out)) ≡ 0) where
+  found : (a : Sums) × (site_answer site (length out) ≡ Ok a)
+  found = accepted_value (site_answer site (length out)) z
+
+  a : Sums
+  a = found.0
 
   abbrev s : Scenario
   s = (header_of site).scenario
@@ -74,8 +80,8 @@ module _ (site out : List ℕ) (z : number_of (site_answer site (length out)).re
   count = (header_of site).count
 
   left_is : site_left site out ≡ over (results_of site a) out
-  unfolding site_left
-  left_is = ap (λ (n : ℕ). cond (eqb n 0) (over (results_of site a) out) out) z
+  unfolding site_left a
+  left_is = ap (λ (x : Result Sums Refused). left_of site x out) found.1
 
   -- the blocks are as long as the site
   blocks_long : length (results_of site a) ≡ length site
@@ -84,9 +90,9 @@ module _ (site out : List ℕ) (z : number_of (site_answer site (length out)).re
       length-append (summary_block a.risk a.hazard) (results_to s medium site count) ∙
       omega (arith, summary_length a.risk a.hazard, results_long s medium site count, site_long (passed_site site (length out) z).opened)
 
-  pub summary_block_lem : block_at (site_left site out) 0 ≡ summary_block a.risk a.hazard
+  first_block : block_at (site_left site out) 0 ≡ summary_block a.risk a.hazard
   unfolding block_at part_of over results_of
-  summary_block_lem =
+  first_block =
       ap (take 512) (left_is ∙ append_assoc (summary_block a.risk a.hazard) (results_to s medium site count) _) ∙
       take_at (summary_block a.risk a.hazard) _ 512 (summary_length a.risk a.hazard)
 
@@ -105,10 +111,15 @@ module _ (site out : List ℕ) (z : number_of (site_answer site (length out)).re
   accepted_length : length (site_left site out) ≡ length out
   accepted_length = ap length left_is ∙ over_length (results_of site a) out (omega (arith, blocks_long, (passed_site site (length out) z).room))
 
+  -- block 0 is the summary of the accepted sums
+  pub summary_block_lem : {b : Sums} → site_answer site (length out) ≡ Ok b → block_at (site_left site out) 0 ≡ summary_block b.risk b.hazard
+  unfolding a
+  summary_block_lem e = first_block ∙ ap (λ (x : Sums). summary_block x.risk x.hazard) (same_value (sym found.1 ∙ e))
+
 -- ---- accepted or refused, the output stays as long as it was
 pub output_length : (site out : List ℕ) → length (site_left site out) ≡ length out
-output_length site out = cases (eqb (number_of (site_answer site (length out)).refusal) 0) refl
+output_length site out = cases (site_answer site (length out)) refl
   where
-    cases : (b : Bool) → eqb (number_of (site_answer site (length out)).refusal) 0 ≡ b → length (site_left site out) ≡ length out
-    cases true e = accepted_length site out (eqb-true _ 0 e)
-    cases false e = ap length (left_refused site out (site_answer site (length out)) refl (eqb-false _ 0 e))
+    cases : (x : Result Sums Refused) → site_answer site (length out) ≡ x → length (site_left site out) ≡ length out
+    cases (Ok a) e = accepted_length site out (ap number_of e)
+    cases (Err r) e = ap length (left_refused site out e)

@@ -8,24 +8,22 @@ use lib.Dec.{eqb, ltb}
 use lib.ListN.{length}
 use borrow.Author.Tests.{eqb-true, eqb-false, ltb-false, le-ltb}
 use Rattle.outcome.specs.declared.Refusal.TheVariants.{Room}
-use Rattle.outcome.specs.Outcome.{number_of}
+use Rattle.std.specs.Prelude.{Result, Ok, Err}
+use Rattle.outcome.specs.declared.Refused.{Refused}
+use Rattle.outcome.specs.Outcome.{refused, number_of}
+use Rattle.outcome.proofs.Numbers.{refusal_numbered}
 use Rattle.block_rules.specs.declared.Header.{Header}
-use Rattle.block_rules.specs.declared.HeaderRead.{HeaderRead}
-use Rattle.block_rules.specs.declared.HeaderRead.TheVariants as H
 use Rattle.block_rules.specs.Reading.{header_read, contaminant_read}
-use Rattle.block_rules.proofs.Found.{header_refused, contaminant_refused}
-use Rattle.sum_rules.specs.declared.SumsAnswer.{SumsAnswer}
+use Rattle.sum_rules.specs.declared.Sums.{Sums}
 use Rattle.sum_rules.specs.Share.{start, Running, next}
-use Rattle.sum_rules.specs.ListCall.{refused, taken_in}
+use Rattle.sum_rules.specs.ListCall.{taken_in}
 use Rattle.sum_rules.proofs.TakenIn.{taken_passed}
 use Rattle.formulas.specs.Side.{Risk, Hazard}
 use Rattle.site_rules.specs.Blocks.{length_ok, block_at, header_of, record_at}
 use Rattle.site_rules.specs.Site.{site_answer}
-use Rattle.site_rules.proofs.Walk.{walk_blocks, with_room, on_contaminant}
+use Rattle.site_rules.proofs.Walk.{walk_blocks, with_room, on_read}
 use Rattle.inputs.specs.declared.Scenario.{Scenario}
 use Rattle.inputs.specs.declared.Contaminant.{Contaminant}
-use Rattle.block_rules.specs.declared.ContaminantRead.{ContaminantRead}
-use Rattle.block_rules.specs.declared.ContaminantRead.TheVariants as C
 use mathlib.Core.Logic.{◌⊎◌, inl, inr}
 use Rattle.outcome.specs.declared.Refusal.{Refusal}
 use Rattle.site_rules.specs.Passed.{RecordOk, Opened}
@@ -39,8 +37,8 @@ pub record PassedSite (site : List ℕ) (out : ℕ) (h : Header) : Type 0 where
   pub records : (k : ℕ) → 1 ≤ k → k ≤ h.count → RecordOk h.scenario h.medium (record_at site k)
 
 -- an answer that is accepted, in another form
-pub accepted_as : {a b : SumsAnswer} → a ≡ b → number_of a.refusal ≡ 0 → number_of b.refusal ≡ 0
-accepted_as e z = subst (λ (a : SumsAnswer). number_of a.refusal ≡ 0) e z
+pub accepted_as : {a b : Result Sums Refused} → a ≡ b → number_of a ≡ 0 → number_of b ≡ 0
+accepted_as e z = subst (λ (a : Result Sums Refused). number_of a ≡ 0) e z
 
 -- ---- every record of an accepted walk keeps its rules and has a pathway
 module _ (s : Scenario) (medium : ℕ) (site : List ℕ) where
@@ -49,8 +47,8 @@ module _ (s : Scenario) (medium : ℕ) (site : List ℕ) where
   apart j k l false e = let q = eqb-false j k e in inr (omega (arith, l, q))
 
   -- of the block at place k, or of one after it, by `again`
-  ok_found : (k before j : ℕ) (risk hazard : Running) (r : Contaminant) (w : SumsAnswer) → contaminant_read (block_at site k) k before ≡ C.Found r → (j ≡ k) ⊎ (k + 1 ≤ j) →
-      (number_of w.refusal ≡ 0 → k + 1 ≤ j → RecordOk s medium (record_at site j)) → number_of (taken_in s medium k risk hazard r w).refusal ≡ 0 →
+  ok_found : (k before j : ℕ) (risk hazard : Running) (r : Contaminant) (w : Result Sums Refused) → contaminant_read (block_at site k) k before ≡ Ok r → (j ≡ k) ⊎ (k + 1 ≤ j) →
+      (number_of w ≡ 0 → k + 1 ≤ j → RecordOk s medium (record_at site j)) → number_of (taken_in s medium k risk hazard r w) ≡ 0 →
       RecordOk s medium (record_at site j)
   ok_found k before j risk hazard r w e (inl q) again z =
       subst (RecordOk s medium) (found_is site k before r e ∙ ap (record_at site) (sym q))
@@ -58,16 +56,16 @@ module _ (s : Scenario) (medium : ℕ) (site : List ℕ) where
   ok_found k before j risk hazard r w e (inr q) again z = again (accepted_as (taken_passed s medium k risk hazard r w z).is z) q
 
   ok_read : (n k before j : ℕ) (risk hazard : Running) → k ≤ j →
-      ((id : ℕ) (x y : Running) → number_of (walk_blocks s medium site n (k + 1) id x y).refusal ≡ 0 → k + 1 ≤ j → RecordOk s medium (record_at site j)) →
-      (x : ContaminantRead) → contaminant_read (block_at site k) k before ≡ x →
-      number_of (on_contaminant x (λ (m : Refusal). refused m k)
-      (λ (r : Contaminant). taken_in s medium k risk hazard r (walk_blocks s medium site n (k + 1) r.id (next s medium Risk risk r) (next s medium Hazard hazard r)))).refusal ≡ 0 →
+      ((id : ℕ) (x y : Running) → number_of (walk_blocks s medium site n (k + 1) id x y) ≡ 0 → k + 1 ≤ j → RecordOk s medium (record_at site j)) →
+      (x : Result Contaminant Refusal) → contaminant_read (block_at site k) k before ≡ x →
+      number_of (on_read x (λ (m : Refusal). refused m k)
+      (λ (r : Contaminant). taken_in s medium k risk hazard r (walk_blocks s medium site n (k + 1) r.id (next s medium Risk risk r) (next s medium Hazard hazard r)))) ≡ 0 →
       RecordOk s medium (record_at site j)
-  ok_read n k before j risk hazard l again (C.Refused m) e z = absurd (contaminant_refused (block_at site k) k before m e z)
-  ok_read n k before j risk hazard l again (C.Found r) e z =
+  ok_read n k before j risk hazard l again (Err m) e z = absurd ((refusal_numbered m).some z)
+  ok_read n k before j risk hazard l again (Ok r) e z =
       ok_found k before j risk hazard r _ e (apart j k l (eqb j k) refl) (again r.id (next s medium Risk risk r) (next s medium Hazard hazard r)) z
 
-  pub walk_ok : (n k before : ℕ) (risk hazard : Running) → number_of (walk_blocks s medium site n k before risk hazard).refusal ≡ 0 →
+  pub walk_ok : (n k before : ℕ) (risk hazard : Running) → number_of (walk_blocks s medium site n k before risk hazard) ≡ 0 →
       (j : ℕ) → k ≤ j → j < k + n → RecordOk s medium (record_at site j)
   unfolding walk_blocks
   walk_ok zero k before risk hazard h j l u = absurd (omega (arith, l, u))
@@ -76,26 +74,22 @@ module _ (s : Scenario) (medium : ℕ) (site : List ℕ) where
 
 -- ---- the room
 -- with enough room the answer stays as it is
-pub room_kept : (site out : ℕ) (a : SumsAnswer) → site ≤ out → with_room site out a ≡ a
+pub room_kept : (site out : ℕ) (a : Result Sums Refused) → site ≤ out → with_room site out a ≡ a
 unfolding with_room
-room_kept site out a l = rw (le-ltb out site l) (same (eqb (number_of a.refusal) 0))
-  where
-    same : (b : Bool) → cond b a a ≡ a
-    same true = refl
-    same false = refl
+room_kept site out (Ok a) l = rw (le-ltb out site l) refl
+room_kept site out (Err r) l = refl
 
 -- an answer that is accepted after this last test had room enough
-room_cases : (site out : ℕ) (a : SumsAnswer) (b c : Bool) → eqb (number_of a.refusal) 0 ≡ b → ltb out site ≡ c →
-    number_of (cond b (cond c (refused Room 0) a) a).refusal ≡ 0 → site ≤ out
-room_cases site out a true false e f z = ltb-false out site f
-room_cases site out a true true e f z = absurd (omega (arith, z))
-room_cases site out a false c e f z = absurd (eqb-false (number_of a.refusal) 0 e z)
+room_cases : (site out : ℕ) (a : Result Sums Refused) (c : Bool) → ltb out site ≡ c → number_of (cond c (refused Room 0) a) ≡ 0 → site ≤ out
+room_cases site out a false f z = ltb-false out site f
+room_cases site out a true f z = absurd (omega (arith, z))
 
-room_enough : (site out : ℕ) (a : SumsAnswer) → number_of (with_room site out a).refusal ≡ 0 → site ≤ out
+room_enough : (site out : ℕ) (a : Result Sums Refused) → number_of (with_room site out a) ≡ 0 → site ≤ out
 unfolding with_room
-room_enough site out a z = room_cases site out a (eqb (number_of a.refusal) 0) (ltb out site) refl refl z
+room_enough site out (Ok a) z = room_cases site out (Ok a) (ltb out site) refl z
+room_enough site out (Err r) z = absurd ((refusal_numbered r.refusal).some z)
 
-module _ (site : List ℕ) (out : ℕ) (z : number_of (site_answer site out).refusal ≡ 0) where
+module _ (site : List ℕ) (out : ℕ) (z : number_of (site_answer site out) ≡ 0) where
   with_header : (h : Header) → Opened site h → PassedSite site out h
   with_header h o =
       let w = walk_blocks h.scenario h.medium site h.count 1 0 start start in
@@ -109,9 +103,9 @@ module _ (site : List ℕ) (out : ℕ) (z : number_of (site_answer site out).ref
       }
 
   -- ---- the header and the length
-  by_header : length_ok (length site) ≡ true → (x : HeaderRead) → header_read (block_at site 0) (length site / 512) ≡ x → PassedSite site out (header_of site)
-  by_header r (H.Refused m) e = absurd (header_refused (block_at site 0) (length site / 512) m e (accepted_as (answer_header site out m r e) z))
-  by_header r (H.Found h) e =
+  by_header : length_ok (length site) ≡ true → (x : Result Header Refusal) → header_read (block_at site 0) (length site / 512) ≡ x → PassedSite site out (header_of site)
+  by_header r (Err m) e = absurd ((refusal_numbered m).some (accepted_as (answer_header site out m r e) z))
+  by_header r (Ok h) e =
       let o : Opened site h = record { right = r; header = e } in
       subst (PassedSite site out) (sym (header_is o)) (with_header h o)
 

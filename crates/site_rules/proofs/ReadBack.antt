@@ -1,6 +1,6 @@
 -- From the bytes that an accepted site leaves to demand 3: reading block 0 gives the sums and verdicts of the answer, reading block k the
 -- decimals of the single guideline for the record at place k, and every e read is from -999 to 999. Assumes nothing.
-use mathlib.Core.Path.{◌≡◌, refl, sym, subst}
+use mathlib.Core.Path.{◌≡◌, refl, sym, subst, ◌∙◌}
 use mathlib.Core.Bool.{Bool, true, false, cond}
 use mathlib.Core.List.{List, [], ◌∷◌}
 use Prim.Native.Nat.{ℕ, zero, suc, ◌≤◌, ◌<◌}
@@ -19,7 +19,10 @@ use Rattle.decimal.specs.Decimal.{zero_of, biased_of, decimal_of, is_operand, ar
 use Rattle.decimal.proofs.OperandFacts.{operand_is}
 use Rattle.decimal.proofs.Value.{Value, value_inside}
 use Rattle.decimal.proofs.Value.Value.{absent, known}
+use Rattle.std.specs.Prelude.{Result, Ok}
+use Rattle.outcome.specs.declared.Refused.{Refused}
 use Rattle.outcome.specs.Outcome.{number_of}
+use Rattle.outcome.proofs.Numbers.{accepted_value}
 use Rattle.inputs.specs.declared.Scenario.{Scenario}
 use Rattle.inputs.specs.declared.Contaminant.{Contaminant}
 use Rattle.inputs.specs.Rules.{one_or_two}
@@ -28,12 +31,12 @@ use Rattle.formulas.specs.Side.{Side, Risk, Hazard}
 use Rattle.formulas.specs.Formula.{Formula, none, TR, THI}
 use Rattle.formulas.specs.Term.{look, term_of, total_of, formulas_for, values_for}
 use Rattle.fields.specs.Fields.{InField}
-use Rattle.guideline_rules.specs.declared.GuidelineAnswer.{GuidelineAnswer}
-use Rattle.guideline_rules.specs.Guideline.{side_of, side_decimals, all_ranged, guideline_of}
+use Rattle.guideline_rules.specs.declared.Guidelines.{Guidelines}
+use Rattle.guideline_rules.specs.Guideline.{side_of, side_decimals, all_ranged, guidelines_sent, guideline_of}
 use Rattle.guideline_rules.proofs.Accepted.{accepted_inputs}
 use Rattle.guideline_rules.proofs.Promises.{ranged, accepted_is}
-use Rattle.sum_rules.specs.declared.SumsAnswer.{SumsAnswer}
-use Rattle.sum_rules.specs.Promise.{side_at}
+use Rattle.sum_rules.specs.declared.Sums.{Sums}
+use Rattle.sum_rules.specs.Promise.{side_sent}
 use Rattle.sum_rules.proofs.NeverOutOfRange.{RangedSums, sums_ranged}
 use Rattle.block_rules.specs.Layouts.{guideline_decimals, summary_decimals}
 use Rattle.block_rules.proofs.Rules.{at_most_two}
@@ -91,7 +94,7 @@ value_fits : {w : ℕ} {d : Decimal} → Value w d → InField d
 value_fits (absent e) = record { word = rw e (omega arith); exponent = rw e }
 value_fits {w} {d} (known v) = record { word = omega (arith, v.nine.most); exponent = (value_inside (known v)).inside }
 
-sums_fit : (a : SumsAnswer) → ((side : Side) → RangedSums (side_at a side)) → (n : ℕ) → InField (get_or (summary_decimals a.risk a.hazard) n zero_of)
+sums_fit : (a : Sums) → ((side : Side) → RangedSums (side_sent (Ok a) side)) → (n : ℕ) → InField (get_or (summary_decimals a.risk a.hazard) n zero_of)
 sums_fit a h zero = value_fits (h Risk).lower
 sums_fit a h (suc zero) = value_fits (h Risk).upper
 sums_fit a h (suc (suc zero)) = value_fits (h Hazard).lower
@@ -99,7 +102,7 @@ sums_fit a h (suc (suc (suc zero))) = value_fits (h Hazard).upper
 sums_fit a h (suc (suc (suc (suc n)))) = record { word = omega arith; exponent = refl }
 
 -- ---- an accepted site
-module _ (site out : List ℕ) (z : number_of (site_answer site (length out)).refusal ≡ 0) where
+module _ (site out : List ℕ) (z : number_of (site_answer site (length out)) ≡ 0) where
   abbrev s : Scenario
   s = (header_of site).scenario
 
@@ -109,25 +112,28 @@ module _ (site out : List ℕ) (z : number_of (site_answer site (length out)).re
   passed : PassedSite site (length out) (header_of site)
   passed = passed_site site (length out) z
 
-  -- BLOCK 0 holds the four sums and two verdicts of the answer
-  pub site_summary_back : SummaryRead (block_at (site_left site out) 0) (site_answer site (length out)).risk (site_answer site (length out)).hazard
-  site_summary_back =
-      let a = site_answer site (length out) in
+  summary_of : {a : Sums} → site_answer site (length out) ≡ Ok a →
+      SummaryRead (block_at (site_left site out) 0) (side_sent (site_answer site (length out)) Risk) (side_sent (site_answer site (length out)) Hazard)
+  summary_of {a} f =
       let rs = records_from site (header_of site).count 1 in
       let e = site_sums site (length out) z in
-      let ok = subst (λ (x : SumsAnswer). (side : Side) → RangedSums (side_at x side)) (sym e) (sums_ranged s medium rs (accepted_as e z)) in
-      rw (summary_block_lem site out z) (summary_back a.risk a.hazard (sums_fit a ok))
+      let ok = subst (λ (x : Result Sums Refused). (side : Side) → RangedSums (side_sent x side)) (sym e ∙ f) (sums_ranged s medium rs (accepted_as e z)) in
+      rw (summary_block_lem site out z f, f) (summary_back a.risk a.hazard (sums_fit a ok))
+
+  -- BLOCK 0 holds the four sums and two verdicts of the answer
+  pub site_summary_back : SummaryRead (block_at (site_left site out) 0) (side_sent (site_answer site (length out)) Risk) (side_sent (site_answer site (length out)) Hazard)
+  site_summary_back = summary_of (accepted_value (site_answer site (length out)) z).1
 
   module _ (k : ℕ) (first : 1 ≤ k) (last : k ≤ (header_of site).count) where
     abbrev r : Contaminant
     r = record_at site k
 
-    guidelines_fit : (n : ℕ) → InField (get_or (guideline_decimals (guideline_of s medium r).risk (guideline_of s medium r).hazard) n zero_of)
+    guidelines_fit : (n : ℕ) → InField (get_or (guideline_decimals (guidelines_sent (guideline_of s medium r)).risk (guidelines_sent (guideline_of s medium r)).hazard) n zero_of)
     guidelines_fit =
         let vs = values_for Up s r in
         let o = passed.opened in
         let a = accepted_inputs s medium r (opened_fits o) (opened_known o) (passed.records k first last).fits in
-        subst (λ (g : GuidelineAnswer). (n : ℕ) → InField (get_or (guideline_decimals g.risk g.hazard) n zero_of))
+        subst (λ (g : Result Guidelines Refused). (n : ℕ) → InField (get_or (guideline_decimals (guidelines_sent g).risk (guidelines_sent g).hazard) n zero_of))
         (sym (accepted_is s medium r (site_guidelines site (length out) z k first last)))
         (all_fit vs (look vs TR) (look vs THI) (formulas_for s medium r Risk) (formulas_for s medium r Hazard) (ranged s medium r a Risk) (ranged s medium r a Hazard))
 
@@ -136,10 +142,10 @@ module _ (site out : List ℕ) (z : number_of (site_answer site (length out)).re
 
     -- BLOCK k holds the eight decimals of the single guideline for the record at place k
     pub site_result_back : ResultRead (block_at (site_left site out) k) k (record_at site k).class (record_at site k).id
-        (guideline_of (header_of site).scenario (header_of site).medium (record_at site k)).risk
-        (guideline_of (header_of site).scenario (header_of site).medium (record_at site k)).hazard
+        (guidelines_sent (guideline_of (header_of site).scenario (header_of site).medium (record_at site k))).risk
+        (guidelines_sent (guideline_of (header_of site).scenario (header_of site).medium (record_at site k))).hazard
     unfolding result_at
     site_result_back =
         rw (result_block_lem site out z k first last)
-        (result_back k r.class r.id (guideline_of s medium r).risk (guideline_of s medium r).hazard
+        (result_back k r.class r.id (guidelines_sent (guideline_of s medium r)).risk (guidelines_sent (guideline_of s medium r)).hazard
         (omega (arith, count_most passed.opened)) (omega (arith, class_most)) guidelines_fit)

@@ -9,25 +9,26 @@ use native.Mathlib.Omega.{arith}
 use lib.Dec.{eqb}
 use lib.ListN.{length}
 use borrow.Author.Tests.{eqb-true, le-leb}
-use Rattle.outcome.specs.Outcome.{number_of}
+use Rattle.std.specs.Prelude.{Result}
+use Rattle.outcome.specs.declared.Refused.{Refused}
+use Rattle.outcome.specs.Outcome.{refused, number_of}
+use Rattle.outcome.proofs.Numbers.{refusal_numbered}
 use Rattle.block_rules.specs.Rules.{in_file, count_ok}
-use Rattle.sum_rules.specs.declared.SumsAnswer.{SumsAnswer}
-use Rattle.sum_rules.specs.ListCall.{refused}
+use Rattle.sum_rules.specs.declared.Sums.{Sums}
 use Rattle.site_rules.specs.Blocks.{length_ok, header_of, records_from, all_sums}
 use Rattle.site_rules.specs.Site.{site_answer}
 use Rattle.site_rules.specs.Refusals.{Condition, count_condition, site_conditions, first_holding, FirstHolds, NoneHolds, FromTable}
 use Rattle.site_rules.specs.Refusals.FirstHolds.{here, later}
 use Rattle.site_rules.specs.Refusals.NoneHolds.{none, also}
 use Rattle.site_rules.proofs.RightLength.{right_length}
-use Rattle.site_rules.proofs.WalkTable.{first_numbered, site_numbered}
 use Rattle.site_rules.proofs.Passed.{accepted_as}
 
 -- ---- the first that holds
-first_sent : {cs : List Condition} {c : Condition} → FirstHolds cs c → (a : SumsAnswer) → first_holding cs a ≡ refused c.refusal c.block
+first_sent : {cs : List Condition} {c : Condition} → FirstHolds cs c → (a : Result Sums Refused) → first_holding cs a ≡ refused c.refusal c.block
 first_sent (here h) a = rw h
 first_sent (later h f) a = rw h (first_sent f a)
 
-none_sent : {cs : List Condition} → NoneHolds cs → (a : SumsAnswer) → first_holding cs a ≡ a
+none_sent : {cs : List Condition} → NoneHolds cs → (a : Result Sums Refused) → first_holding cs a ≡ a
 none_sent none a = refl
 none_sent (also h n) a = rw h (none_sent n a)
 
@@ -57,7 +58,7 @@ count_plain site r =
 
 -- ---- the site
 module _ (site : List ℕ) (out : ℕ) where
-  abbrev sums : SumsAnswer
+  abbrev sums : Result Sums Refused
   sums = all_sums (header_of site).scenario (header_of site).medium (records_from site (header_of site).count 1)
 
   -- the first condition that holds is sent back
@@ -71,19 +72,17 @@ module _ (site : List ℕ) (out : ℕ) where
   none_accepted n = none_sent n sums
 
   -- and what is sent back is the first condition that holds
-  pub first_of_all : (number_of (site_answer site out).refusal ≡ 0 → ⊥) → FromTable site out (site_answer site out)
+  pub first_of_all : (number_of (site_answer site out) ≡ 0 → ⊥) → FromTable site out (site_answer site out)
   first_of_all n = by_found (find (site_conditions site out))
     where
       by_found : ((c : Condition) × FirstHolds (site_conditions site out) c) ⊎ NoneHolds (site_conditions site out) → FromTable site out (site_answer site out)
-      by_found (inl f) =
-          let e = sym (sent_back f.1) in
-          record { line = f.0; first = f.1; refusal = ap (λ (a : SumsAnswer). a.refusal) e; block = ap (λ (a : SumsAnswer). a.block) e }
-      by_found (inr m) = absurd (n (ap (λ (a : SumsAnswer). number_of a.refusal) (none_accepted m)))
+      by_found (inl f) = record { line = f.0; first = f.1; is = sent_back f.1 }
+      by_found (inr m) = absurd (n (ap number_of (none_accepted m)))
 
   -- an accepted call: none of the conditions holds
-  pub accepted_iff : (number_of (site_answer site out).refusal ≡ 0) ↔ NoneHolds (site_conditions site out)
-  accepted_iff = (λ z. by_found z (find (site_conditions site out)), λ m. ap (λ (a : SumsAnswer). number_of a.refusal) (none_accepted m))
+  pub accepted_iff : (number_of (site_answer site out) ≡ 0) ↔ NoneHolds (site_conditions site out)
+  accepted_iff = (λ z. by_found z (find (site_conditions site out)), λ m. ap number_of (none_accepted m))
     where
-      by_found : number_of (site_answer site out).refusal ≡ 0 → ((c : Condition) × FirstHolds (site_conditions site out) c) ⊎ NoneHolds (site_conditions site out) → NoneHolds (site_conditions site out)
-      by_found z (inl f) = absurd (first_numbered (site_numbered site out) f.1 (accepted_as (sent_back f.1) z))
+      by_found : number_of (site_answer site out) ≡ 0 → ((c : Condition) × FirstHolds (site_conditions site out) c) ⊎ NoneHolds (site_conditions site out) → NoneHolds (site_conditions site out)
+      by_found z (inl f) = absurd ((refusal_numbered f.0.refusal).some (accepted_as (sent_back f.1) z))
       by_found z (inr m) = m

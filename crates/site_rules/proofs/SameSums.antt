@@ -3,27 +3,25 @@ use mathlib.Core.Path.{◌≡◌, refl, sym, ap, subst, ◌∙◌}
 use mathlib.Core.Bool.{true, false, cond}
 use mathlib.Core.List.{List, ◌∷◌}
 use Prim.Native.Nat.{ℕ, zero, suc, ◌+◌, ◌≤◌}
-use lib.Dec.{eqb}
 use lib.ListN.{length}
 use borrow.Author.Tests.{lt-leb, le-leb}
 use Rattle.outcome.specs.declared.Refusal.{Refusal}
-use Rattle.outcome.specs.declared.Refusal.TheVariants.{Accepted}
-use Rattle.outcome.specs.Outcome.{number_of}
+use Rattle.std.specs.Prelude.{Result, Ok, Err}
+use Rattle.outcome.specs.declared.Refused.{Refused}
+use Rattle.outcome.specs.Outcome.{refused, number_of}
+use Rattle.outcome.proofs.Numbers.{refusal_numbered}
 use Rattle.inputs.specs.declared.Scenario.{Scenario}
 use Rattle.inputs.specs.declared.Contaminant.{Contaminant}
 use Rattle.block_rules.specs.declared.Header.{Header}
-use Rattle.block_rules.specs.declared.ContaminantRead.{ContaminantRead}
-use Rattle.block_rules.specs.declared.ContaminantRead.TheVariants as C
 use Rattle.block_rules.specs.Reading.{contaminant_read}
-use Rattle.block_rules.proofs.Found.{contaminant_refused}
 use Rattle.formulas.specs.Side.{Risk, Hazard}
-use Rattle.sum_rules.specs.declared.SumsAnswer.{SumsAnswer}
+use Rattle.sum_rules.specs.declared.Sums.{Sums}
 use Rattle.sum_rules.specs.Share.{Running, start, next}
-use Rattle.sum_rules.specs.ListCall.{refused, first_refusal, taken_in, walk, sums_of}
+use Rattle.sum_rules.specs.ListCall.{first_refusal, taken_in, walk, sums_of}
 use Rattle.sum_rules.proofs.TakenIn.{taken_passed}
 use Rattle.site_rules.specs.Blocks.{block_at, header_of, record_at, records_from}
 use Rattle.site_rules.specs.Site.{site_answer}
-use Rattle.site_rules.proofs.Walk.{on_contaminant, walk_blocks}
+use Rattle.site_rules.proofs.Walk.{on_read, walk_blocks}
 use Rattle.site_rules.specs.Passed.{Opened}
 use Rattle.site_rules.proofs.Opened.{found_record, found_is, opened_fits, opened_known, count_some, count_most}
 use Rattle.site_rules.proofs.Passed.{accepted_as, passed_site}
@@ -31,7 +29,7 @@ use Rattle.inputs.specs.Rules.{scenario_fits, lacks_factor}
 
 -- the tests of the list call before its first record
 pub first_accepted : (s : Scenario) (medium n : ℕ) → 1 ≤ n → n ≤ 120 → scenario_fits s medium ≡ true → lacks_factor s ≡ false →
-    first_refusal s medium n ≡ Accepted
+    first_refusal s medium n ≡ Ok tt
 unfolding first_refusal
 first_accepted s medium n l u fits known = rw (le-leb 1 n l, le-leb n 120 u, fits, known)
 
@@ -41,28 +39,28 @@ records_long site zero k = refl
 records_long site (suc n) k = ap suc (records_long site n (k + 1))
 
 -- a list that passes the tests before its first record
-pub sums_walked : (s : Scenario) (medium : ℕ) (rs : List Contaminant) → first_refusal s medium (length rs) ≡ Accepted → sums_of s medium rs ≡ walk s medium rs 1 0 start start
+pub sums_walked : (s : Scenario) (medium : ℕ) (rs : List Contaminant) → first_refusal s medium (length rs) ≡ Ok tt → sums_of s medium rs ≡ walk s medium rs 1 0 start start
 unfolding sums_of
-sums_walked s medium rs e = ap (λ (m : Refusal). cond (eqb (number_of m) 0) (walk s medium rs 1 0 start start) (refused m 0)) e
+sums_walked s medium rs e = rw e refl
 
 module _ (s : Scenario) (medium : ℕ) where
   -- where the answer with a record taken in is accepted, the answer over what is left was so, and may be given in another form
-  taken_same : (k : ℕ) (risk hazard : Running) (r : Contaminant) (w v : SumsAnswer) → (number_of w.refusal ≡ 0 → w ≡ v) →
-      number_of (taken_in s medium k risk hazard r w).refusal ≡ 0 → taken_in s medium k risk hazard r w ≡ taken_in s medium k risk hazard r v
+  taken_same : (k : ℕ) (risk hazard : Running) (r : Contaminant) (w v : Result Sums Refused) → (number_of w ≡ 0 → w ≡ v) →
+      number_of (taken_in s medium k risk hazard r w) ≡ 0 → taken_in s medium k risk hazard r w ≡ taken_in s medium k risk hazard r v
   taken_same k risk hazard r w v again z = ap (taken_in s medium k risk hazard r) (again (accepted_as (taken_passed s medium k risk hazard r w z).is z))
 
   module _ (site : List ℕ) where
     -- a block, by what is read of it; `again` is the same of the blocks after it
     by_read : (n k before : ℕ) (risk hazard : Running) →
-        ((id : ℕ) (x y : Running) → number_of (walk_blocks s medium site n (k + 1) id x y).refusal ≡ 0 →
+        ((id : ℕ) (x y : Running) → number_of (walk_blocks s medium site n (k + 1) id x y) ≡ 0 →
         walk_blocks s medium site n (k + 1) id x y ≡ walk s medium (records_from site n (k + 1)) (k + 1) id x y) →
-        (x : ContaminantRead) → contaminant_read (block_at site k) k before ≡ x →
-        let a = on_contaminant x (λ (m : Refusal). refused m k)
+        (x : Result Contaminant Refusal) → contaminant_read (block_at site k) k before ≡ x →
+        let a = on_read x (λ (m : Refusal). refused m k)
         (λ (r : Contaminant). taken_in s medium k risk hazard r (walk_blocks s medium site n (k + 1) r.id (next s medium Risk risk r) (next s medium Hazard hazard r))) in
-        number_of a.refusal ≡ 0 → a ≡ walk s medium (record_at site k ∷ records_from site n (k + 1)) k before risk hazard
+        number_of a ≡ 0 → a ≡ walk s medium (record_at site k ∷ records_from site n (k + 1)) k before risk hazard
     unfolding walk
-    by_read n k before risk hazard again (C.Refused m) e z = absurd (contaminant_refused (block_at site k) k before m e z)
-    by_read n k before risk hazard again (C.Found r) e z =
+    by_read n k before risk hazard again (Err m) e z = absurd ((refusal_numbered m).some z)
+    by_read n k before risk hazard again (Ok r) e z =
         let f = found_record site k before r e in
         let x = next s medium Risk risk r in
         let y = next s medium Hazard hazard r in
@@ -73,19 +71,19 @@ module _ (s : Scenario) (medium : ℕ) where
         (taken_same k risk hazard r w (walk s medium (records_from site n (k + 1)) (k + 1) r.id x y) (again r.id x y) z))
 
     -- an accepted walk over the blocks is the walk over their records
-    walk_same : (n k before : ℕ) (risk hazard : Running) → number_of (walk_blocks s medium site n k before risk hazard).refusal ≡ 0 →
+    walk_same : (n k before : ℕ) (risk hazard : Running) → number_of (walk_blocks s medium site n k before risk hazard) ≡ 0 →
         walk_blocks s medium site n k before risk hazard ≡ walk s medium (records_from site n k) k before risk hazard
     unfolding walk_blocks records_from walk
     walk_same zero k before risk hazard z = refl
     walk_same (suc n) k before risk hazard z = by_read n k before risk hazard (walk_same n (k + 1)) (contaminant_read (block_at site k) k before) refl z
 
-first_passed : {site : List ℕ} {h : Header} → Opened site h → first_refusal h.scenario h.medium (length (records_from site h.count 1)) ≡ Accepted
+first_passed : {site : List ℕ} {h : Header} → Opened site h → first_refusal h.scenario h.medium (length (records_from site h.count 1)) ≡ Ok tt
 first_passed {site} {h} o =
     ap (first_refusal h.scenario h.medium) (records_long site h.count 1) ∙
     first_accepted h.scenario h.medium h.count (count_some o) (count_most o) (opened_fits o) (opened_known o)
 
 -- THE SAME SUMS AND VERDICTS as the list call over the records of the site
-pub site_sums : (site : List ℕ) (out : ℕ) → number_of (site_answer site out).refusal ≡ 0 →
+pub site_sums : (site : List ℕ) (out : ℕ) → number_of (site_answer site out) ≡ 0 →
     site_answer site out ≡ sums_of (header_of site).scenario (header_of site).medium (records_from site (header_of site).count 1)
 site_sums site out z =
     let p = passed_site site out z in

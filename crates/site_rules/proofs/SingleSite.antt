@@ -10,9 +10,9 @@ use lib.ListN.{length, take}
 use lib.Seq.{take_at, drop_at}
 use borrow.Author.Tests.{eqb-false, lt-leb, not-true}
 use Rattle.outcome.specs.declared.Refusal.{Refusal}
-use Rattle.outcome.specs.declared.Refusal.TheVariants.{Accepted}
-use Rattle.outcome.specs.declared.Answer.{Answer}
-use Rattle.outcome.specs.Outcome.{number_of, answer}
+use Rattle.std.specs.Prelude.{Result, Ok, Err, ⊤}
+use Rattle.outcome.specs.declared.Refused.{Refused}
+use Rattle.outcome.specs.Outcome.{number_of, answered, passing}
 use Rattle.inputs.specs.declared.Scenario.{Scenario}
 use Rattle.inputs.specs.declared.Contaminant.{Contaminant}
 use Rattle.inputs.specs.Rules.{one_or_two, lacks_factor, scenario_refusal, contaminant_fits}
@@ -27,15 +27,15 @@ use Rattle.block_rules.proofs.Found.{contaminant_facts}
 use Rattle.block_rules.proofs.HeaderBack.{header_length}
 use Rattle.block_rules.proofs.ContaminantBack.{contaminant_length, contaminant_back}
 use Rattle.block_rules.proofs.ResultsBack.{ResultRead}
-use Rattle.guideline_rules.specs.declared.GuidelineAnswer.{GuidelineAnswer}
+use Rattle.guideline_rules.specs.declared.Guidelines.{Guidelines}
 use Rattle.formulas.specs.Side.{Risk, Hazard}
 use Rattle.guideline_rules.specs.Pathway.{record_refusal}
-use Rattle.guideline_rules.specs.Guideline.{guideline_of, unless_refused, refused as no_guidelines}
+use Rattle.guideline_rules.specs.Guideline.{guidelines_sent, guideline_of}
 use Rattle.guideline_rules.proofs.Accepted.{accepted_inputs}
 use Rattle.guideline_rules.proofs.Promises.{worked}
-use Rattle.sum_rules.specs.declared.SumsAnswer.{SumsAnswer}
+use Rattle.sum_rules.specs.declared.Sums.{Sums}
 use Rattle.sum_rules.specs.Share.{start, next}
-use Rattle.sum_rules.specs.ListCall.{walk, accepted, refused as no_sums}
+use Rattle.sum_rules.specs.ListCall.{walk, accepted}
 use Rattle.sum_rules.proofs.TakenIn.{taken_ranged}
 use Rattle.sum_rules.proofs.InRange.{fair_start, in_range_lem}
 use Rattle.site_rules.specs.Blocks.{block_at, header_of, record_at}
@@ -50,14 +50,9 @@ use Rattle.site_rules.proofs.WrittenSite.{written_opened, written_answer}
 use Rattle.site_rules.proofs.ReadBack.{site_result_back}
 
 -- by the tests of the record
-by_tests : (n : Refusal) (w : SumsAnswer) (g : GuidelineAnswer) → answer w.refusal w.block ≡ answer Accepted 0 → answer g.refusal g.block ≡ answer Accepted 0 →
-    answer (cond (eqb (number_of n) 0) w (no_sums n 1)).refusal (cond (eqb (number_of n) 0) w (no_sums n 1)).block ≡
-    answer (unless_refused n 1 g).refusal (unless_refused n 1 g).block
-by_tests n w g e f = cases (eqb (number_of n) 0)
-  where
-    cases : (b : Bool) → answer (cond b w (no_sums n 1)).refusal (cond b w (no_sums n 1)).block ≡ answer (cond b g (no_guidelines n 1)).refusal (cond b g (no_guidelines n 1)).block
-    cases true = e ∙ sym f
-    cases false = refl
+by_tests : (x : Result ⊤ Refusal) (w : Result Sums Refused) (g : Result Guidelines Refused) → answered w ≡ answered g → answered (passing x 1 w) ≡ answered (passing x 1 g)
+by_tests (Ok u) w g e = e
+by_tests (Err n) w g e = refl
 
 module _ (h : Header) (r : Contaminant) (fit : header_fit h ≡ true) (known : lacks_factor h.scenario ≡ false) (one : h.count ≡ 1)
     (fits : contaminant_fits r ≡ true) (small : r.id < 4294967296) where
@@ -81,25 +76,20 @@ module _ (h : Header) (r : Contaminant) (fit : header_fit h ≡ true) (known : l
       let n = eqb-false r.id 0 (not-true _ b.0) in
       omega (arith, n)
 
-  sent_by : SumsAnswer → Answer
-  sent_by a = answer a.refusal a.block
-
-  walked : sent_by (walk s m (r ∷ []) 1 0 start start) ≡ answer (guideline_of s m r).refusal (guideline_of s m r).block
-  unfolding sent_by walk guideline_of scenario_refusal
+  walked : answered (walk s m (r ∷ []) 1 0 start start) ≡ answered (guideline_of s m r)
+  unfolding walk guideline_of scenario_refusal
   walked =
       let a = accepted_inputs s m r (opened_fits opened) (opened_known opened) fits in
       let w = accepted s (next s m Risk start r) (next s m Hazard start r) in
       let ranged-now = in_range_lem s m (opened_fits opened) (opened_known opened) r (lit≤ tt) fair_start fair_start fits in
       rw (opened_fits opened, opened_known opened, fits, lt-leb r.id 0 id_some, taken_ranged s m 1 start start r w ranged-now, worked s m r a)
-      (by_tests (record_refusal s m r) w _ refl refl)
+      (by_tests (record_refusal s m r) w _ refl)
 
   -- THE SAME number and block
   pub single_answer : (out : ℕ) → 1024 ≤ out →
-      answer (site_answer (site_of h (r ∷ [])) out).refusal (site_answer (site_of h (r ∷ [])) out).block ≡
-      answer (guideline_of h.scenario h.medium r).refusal (guideline_of h.scenario h.medium r).block
-  unfolding sent_by
+      answered (site_answer (site_of h (r ∷ [])) out) ≡ answered (guideline_of h.scenario h.medium r)
   single_answer out room =
-      ap sent_by (written_answer h (r ∷ []) fit known one out (also fits small nobody) (omega arith) ∙
+      ap answered (written_answer h (r ∷ []) fit known one out (also fits small nobody) (omega arith) ∙
       sums_walked s m (r ∷ []) (first_accepted s m 1 (lit≤ tt) (lit≤ tt) (opened_fits opened) (opened_known opened))) ∙ walked
 
   -- ---- the result block
@@ -115,13 +105,13 @@ module _ (h : Header) (r : Contaminant) (fit : header_fit h ≡ true) (known : l
       let b = contaminant_block 1 r in
       ap (λ (l : List ℕ). contaminant_at l 8) block_is ∙ sym (contaminant_facts b 1 0 r (contaminant_back 1 0 r fits small id_some)).is
 
-  pub single_result : (out : List ℕ) → number_of (site_answer (site_of h (r ∷ [])) (length out)).refusal ≡ 0 →
+  pub single_result : (out : List ℕ) → number_of (site_answer (site_of h (r ∷ [])) (length out)) ≡ 0 →
       ResultRead (block_at (site_left (site_of h (r ∷ [])) out) 1) 1 r.class r.id
-      (guideline_of h.scenario h.medium r).risk (guideline_of h.scenario h.medium r).hazard
+      (guidelines_sent (guideline_of h.scenario h.medium r)).risk (guidelines_sent (guideline_of h.scenario h.medium r)).hazard
   single_result out z =
       let b = block_at (site_left single out) 1 in
       let found : Header → Contaminant → Type 0 = λ k q.
-      ResultRead b 1 q.class q.id (guideline_of k.scenario k.medium q).risk (guideline_of k.scenario k.medium q).hazard in
+      ResultRead b 1 q.class q.id (guidelines_sent (guideline_of k.scenario k.medium q)).risk (guidelines_sent (guideline_of k.scenario k.medium q)).hazard in
       let last : 1 ≤ (header_of single).count = omega (arith, one, ap (λ (k : Header). k.count) (header_is opened)) in
       subst (λ (q : Contaminant). found h q) record_is
       (subst (λ (k : Header). found k (record_at single 1)) (header_is opened) (site_result_back single out z 1 (lit≤ tt) last))

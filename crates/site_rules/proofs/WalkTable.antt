@@ -9,8 +9,9 @@ use lib.ListN.{length}
 use borrow.Author.Tests.{eqb-true, eqb-false, not-true, not-false}
 use Rattle.outcome.specs.declared.Refusal.{Refusal}
 use Rattle.outcome.specs.declared.Refusal.TheVariants.{Check, Kind, Field, Count, Factor, Order, Range}
-use Rattle.outcome.specs.Outcome.{number_of, Test, refused_by}
-use Rattle.outcome.proofs.Tests.{all_numbers}
+use Rattle.std.specs.Prelude.{Result, Ok, Err}
+use Rattle.outcome.specs.declared.Refused.{Refused}
+use Rattle.outcome.specs.Outcome.{refused, Test, refused_by, passing}
 use Rattle.words.specs.Words.{word_at}
 use Rattle.inputs.specs.declared.Scenario.{Scenario}
 use Rattle.inputs.specs.declared.Contaminant.{Contaminant}
@@ -18,46 +19,42 @@ use Rattle.inputs.specs.Inputs.{contaminant_of}
 use Rattle.inputs.specs.Rules.{scenario_fits, lacks_factor, contaminant_fits}
 use Rattle.inputs.proofs.Tests.{and_split}
 use Rattle.block_rules.specs.declared.Header.{Header}
-use Rattle.block_rules.specs.declared.HeaderRead.{HeaderRead}
-use Rattle.block_rules.specs.declared.HeaderRead.TheVariants as H
-use Rattle.block_rules.specs.declared.ContaminantRead.{ContaminantRead}
-use Rattle.block_rules.specs.declared.ContaminantRead.TheVariants as C
 use Rattle.block_rules.specs.Rules.{in_file, count_ok}
 use Rattle.block_rules.specs.Reading.{sound_at, header_at, header_unused, header_read, contaminant_at, contaminant_unused, contaminant_read}
 use Rattle.block_rules.proofs.Rules.{is_block}
 use Rattle.formulas.specs.Side.{Risk, Hazard}
 use Rattle.guideline_rules.specs.Pathway.{record_tests, record_refusal}
-use Rattle.sum_rules.specs.declared.SumsAnswer.{SumsAnswer}
+use Rattle.sum_rules.specs.declared.Sums.{Sums}
 use Rattle.sum_rules.specs.Share.{Running, start, next, run_all}
-use Rattle.sum_rules.specs.ListCall.{block_ranged, refused, accepted, taken_in}
+use Rattle.sum_rules.specs.ListCall.{block_ranged, accepted, taken_in}
 use Rattle.site_rules.specs.Blocks.{length_ok, block_at, header_of, record_at, records_from, all_sums}
 use Rattle.site_rules.specs.Site.{site_answer}
 use Rattle.site_rules.specs.Refusals.{Condition, in_block, header_conditions, record_conditions, range_condition, block_conditions, later_conditions, room_condition, site_conditions}
 use Rattle.site_rules.specs.Refusals.{first_holding, FirstHolds}
 use Rattle.site_rules.specs.Refusals.FirstHolds.{here, later}
-use Rattle.site_rules.proofs.Walk.{on_header, on_contaminant, walk_blocks, with_room, walked_answer}
+use Rattle.site_rules.proofs.Walk.{on_read, walk_blocks, with_room, walked_answer}
 use Rattle.site_rules.proofs.RightLength.{right_length}
 
 -- ---- the first that holds
-first_append : (xs ys : List Condition) (a : SumsAnswer) → first_holding (xs ++ ys) a ≡ first_holding xs (first_holding ys a)
+first_append : (xs ys : List Condition) (a : Result Sums Refused) → first_holding (xs ++ ys) a ≡ first_holding xs (first_holding ys a)
 first_append [] ys a = refl
 first_append (x ∷ xs) ys a = ap (cond x.holds (refused x.refusal x.block)) (first_append xs ys a)
 
 -- ---- the readers, test by test
 -- a test at the head of a reader: `on` is what is done with what is read, and `v` what comes of the tests behind it, if they are reached
-step : {A : Type 0} (on : A → SumsAnswer) (t : Bool) (x y : A) (v : SumsAnswer) → (t ≡ false → on y ≡ v) → on (cond t x y) ≡ cond t (on x) v
+step : {A : Type 0} (on : A → Result Sums Refused) (t : Bool) (x y : A) (v : Result Sums Refused) → (t ≡ false → on y ≡ v) → on (cond t x y) ≡ cond t (on x) v
 step on true x y v h = refl
 step on false x y v h = h refl
 
 -- a test said the other way round
-step_not : (t : Bool) (x w v : SumsAnswer) → w ≡ v → cond t w x ≡ cond (not t) x v
+step_not : (t : Bool) (x w v : Result Sums Refused) → w ≡ v → cond t w x ≡ cond (not t) x v
 step_not true x w v h = h
 step_not false x w v h = refl
 
-module _ (b : List ℕ) (f : Refusal → SumsAnswer) (long : eqb (length b) 512 ≡ true) where
+module _ (b : List ℕ) (f : Refusal → Result Sums Refused) (long : eqb (length b) 512 ≡ true) where
   -- the header: 2 to 6, then what `g` makes of it
-  header_steps : (blocks : ℕ) (g : Header → SumsAnswer) (v : SumsAnswer) → (count_ok (header_at b 8).count blocks ≡ true → g (header_at b 8) ≡ v) →
-      on_header (header_read b blocks) f g ≡
+  header_steps : (blocks : ℕ) (g : Header → Result Sums Refused) (v : Result Sums Refused) → (count_ok (header_at b 8).count blocks ≡ true → g (header_at b 8) ≡ v) →
+      on_read (header_read b blocks) f g ≡
       cond (not (sound_at b 0)) (f Check)
       (cond (not (eqb (word_at b 0) 1)) (f Kind)
       (cond (not (scenario_fits (header_at b 8).scenario (header_at b 8).medium && header_unused b 8)) (f Field)
@@ -65,101 +62,63 @@ module _ (b : List ℕ) (f : Refusal → SumsAnswer) (long : eqb (length b) 512 
       (cond (lacks_factor (header_at b 8).scenario) (f Factor) v))))
   unfolding header_read header_at
   header_steps blocks g v h =
-      let on : HeaderRead → SumsAnswer = λ x. on_header x f g in
+      let on : Result Header Refusal → Result Sums Refused = λ x. on_read x f g in
       rw long
-      (step on (not (sound_at b 0)) (H.Refused Check) _ _ (λ _.
-      step on (not (eqb (word_at b 0) 1)) (H.Refused Kind) _ _ (λ _.
-      step on (not (scenario_fits (header_at b 8).scenario (header_at b 8).medium && header_unused b 8)) (H.Refused Field) _ _ (λ _.
-      step on (not (count_ok (header_at b 8).count blocks)) (H.Refused Count) _ _ (λ e.
-      step on (lacks_factor (header_at b 8).scenario) (H.Refused Factor) (H.Found (header_at b 8)) v (λ _. h (not-false _ e)))))))
+      (step on (not (sound_at b 0)) (Err Check) _ _ (λ _.
+      step on (not (eqb (word_at b 0) 1)) (Err Kind) _ _ (λ _.
+      step on (not (scenario_fits (header_at b 8).scenario (header_at b 8).medium && header_unused b 8)) (Err Field) _ _ (λ _.
+      step on (not (count_ok (header_at b 8).count blocks)) (Err Count) _ _ (λ e.
+      step on (lacks_factor (header_at b 8).scenario) (Err Factor) (Ok (header_at b 8)) v (λ _. h (not-false _ e)))))))
 
   -- a later block: 2, 3, 4, 7, then what `g` makes of it
-  block_steps : (k before : ℕ) (g : Contaminant → SumsAnswer) (v : SumsAnswer) → g (contaminant_at b 8) ≡ v →
-      on_contaminant (contaminant_read b k before) f g ≡
+  block_steps : (k before : ℕ) (g : Contaminant → Result Sums Refused) (v : Result Sums Refused) → g (contaminant_at b 8) ≡ v →
+      on_read (contaminant_read b k before) f g ≡
       cond (not (sound_at b k)) (f Check)
       (cond (not (eqb (word_at b 0) 2)) (f Kind)
       (cond (not (contaminant_fits (contaminant_at b 8) && contaminant_unused b 8)) (f Field)
       (cond (leb (contaminant_at b 8).id before) (f Order) v)))
   unfolding contaminant_read contaminant_at contaminant_of
   block_steps k before g v h =
-      let on : ContaminantRead → SumsAnswer = λ x. on_contaminant x f g in
+      let on : Result Contaminant Refusal → Result Sums Refused = λ x. on_read x f g in
       rw long
-      (step on (not (sound_at b k)) (C.Refused Check) _ _ (λ _.
-      step on (not (eqb (word_at b 0) 2)) (C.Refused Kind) _ _ (λ _.
-      step on (not (contaminant_fits (contaminant_at b 8) && contaminant_unused b 8)) (C.Refused Field) _ _ (λ _.
-      step on (leb (contaminant_at b 8).id before) (C.Refused Order) (C.Found (contaminant_at b 8)) v (λ _. h)))))
+      (step on (not (sound_at b k)) (Err Check) _ _ (λ _.
+      step on (not (eqb (word_at b 0) 2)) (Err Kind) _ _ (λ _.
+      step on (not (contaminant_fits (contaminant_at b 8) && contaminant_unused b 8)) (Err Field) _ _ (λ _.
+      step on (leb (contaminant_at b 8).id before) (Err Order) (Ok (contaminant_at b 8)) v (λ _. h)))))
 
--- ---- no line has number 0
-pub data Numbered : List Condition → Type 0 where
-  end : Numbered []
-  line : {c : Condition} {cs : List Condition} → eqb (number_of c.refusal) 0 ≡ false → Numbered cs → Numbered (c ∷ cs)
-
-numbered_append : {xs ys : List Condition} → Numbered xs → Numbered ys → Numbered (xs ++ ys)
-numbered_append end n = n
-numbered_append (line e m) n = line e (numbered_append m n)
-
-pub first_numbered : {cs : List Condition} {c : Condition} → Numbered cs → FirstHolds cs c → number_of c.refusal ≡ 0 → ⊥
-first_numbered {c = c} end x = elim x [ ]
-first_numbered (line e n) (here h) = eqb-false _ 0 e
-first_numbered (line e n) (later h f) = first_numbered n f
-
--- so the room is tried after all of them
-room_line : (site out : ℕ) (n : Refusal) (k : ℕ) (t : Bool) (w v : SumsAnswer) → eqb (number_of n) 0 ≡ false → with_room site out w ≡ v →
+-- ---- every line is a refusal, so the room is tried after all of them
+room_line : (site out : ℕ) (n : Refusal) (k : ℕ) (t : Bool) (w v : Result Sums Refused) → with_room site out w ≡ v →
     with_room site out (cond t (refused n k) w) ≡ cond t (refused n k) v
 unfolding with_room
-room_line site out n k true w v e h = rw e
-room_line site out n k false w v e h = h
+room_line site out n k true w v h = refl
+room_line site out n k false w v h = h
 
-room_last : {cs : List Condition} → Numbered cs → (site out : ℕ) (a : SumsAnswer) → with_room site out (first_holding cs a) ≡ first_holding cs (with_room site out a)
-room_last end site out a = refl
-room_last (line {c} {cs} e n) site out a = room_line site out c.refusal c.block c.holds (first_holding cs a) _ e (room_last n site out a)
+room_last : (cs : List Condition) (site out : ℕ) (a : Result Sums Refused) → with_room site out (first_holding cs a) ≡ first_holding cs (with_room site out a)
+room_last [] site out a = refl
+room_last (c ∷ cs) site out a = room_line site out c.refusal c.block c.holds (first_holding cs a) _ (room_last cs site out a)
 
 -- ---- the tests of a record as lines of the table
-abbrev not_zero : ℕ → Bool
-not_zero n = not (eqb n 0)
-
-tests_first : (k : ℕ) (ts : List Test) → all_numbers not_zero ts ≡ true → (v : SumsAnswer) →
-    cond (eqb (number_of (refused_by ts)) 0) v (refused (refused_by ts) k) ≡ first_holding (map (in_block k) ts) v
-tests_first k [] h v = refl
-tests_first k (t ∷ ts) h v = cases t.holds (tests_first k ts b.1 v)
+tests_first : (k : ℕ) (ts : List Test) (v : Result Sums Refused) → passing (refused_by ts) k v ≡ first_holding (map (in_block k) ts) v
+tests_first k [] v = refl
+tests_first k (t ∷ ts) v = cases t.holds (tests_first k ts v)
   where
-    b : (not_zero (number_of t.refusal) ≡ true) × (all_numbers not_zero ts ≡ true)
-    b = and_split (not_zero (number_of t.refusal)) (all_numbers not_zero ts) h
-
-    cases : (x : Bool) → cond (eqb (number_of (refused_by ts)) 0) v (refused (refused_by ts) k) ≡ first_holding (map (in_block k) ts) v →
-        cond (eqb (number_of (cond x t.refusal (refused_by ts))) 0) v (refused (cond x t.refusal (refused_by ts)) k) ≡
-        cond x (refused t.refusal k) (first_holding (map (in_block k) ts) v)
-    cases true again = rw (not-true (eqb (number_of t.refusal) 0) b.0)
+    cases : (x : Bool) → passing (refused_by ts) k v ≡ first_holding (map (in_block k) ts) v →
+        passing (cond x (Err t.refusal) (refused_by ts)) k v ≡ cond x (refused t.refusal k) (first_holding (map (in_block k) ts) v)
+    cases true again = refl
     cases false again = again
-
-tests_numbered : (k : ℕ) (ts : List Test) → all_numbers not_zero ts ≡ true → Numbered (map (in_block k) ts)
-tests_numbered k [] h = end
-tests_numbered k (t ∷ ts) h =
-    let b = and_split (not_zero (number_of t.refusal)) (all_numbers not_zero ts) h in
-    line (not-true (eqb (number_of t.refusal) 0) b.0) (tests_numbered k ts b.1)
 
 -- ---- the later blocks
 -- a record by its tests and 9, as lines of the table
-taken_table : (s : Scenario) (medium : ℕ) (site : List ℕ) (k : ℕ) (risk hazard : Running) (w v : SumsAnswer) → w ≡ v →
+taken_table : (s : Scenario) (medium : ℕ) (site : List ℕ) (k : ℕ) (risk hazard : Running) (w v : Result Sums Refused) → w ≡ v →
     taken_in s medium k risk hazard (record_at site k) w ≡ first_holding (record_conditions s medium site k ++ range_condition s medium site k risk hazard ∷ []) v
 unfolding taken_in record_refusal
 taken_table s medium site k risk hazard w v h =
     let r = record_at site k in
-    ap (λ (x : SumsAnswer). cond (eqb (number_of (record_refusal s medium r)) 0) x (refused (record_refusal s medium r) k))
-    (step_not (block_ranged s medium risk hazard r) (refused Range k) w v h) ∙
-    tests_first k (record_tests s medium r) refl _ ∙
+    ap (passing (record_refusal s medium r) k) (step_not (block_ranged s medium risk hazard r) (refused Range k) w v h) ∙
+    tests_first k (record_tests s medium r) _ ∙
     sym (first_append (record_conditions s medium site k) (range_condition s medium site k risk hazard ∷ []) v)
 
 module _ (s : Scenario) (medium : ℕ) (site : List ℕ) where
-  later_numbered : (n k before : ℕ) (risk hazard : Running) → Numbered (later_conditions s medium site n k before risk hazard)
-  unfolding later_conditions block_conditions
-  later_numbered zero k before risk hazard = end
-  later_numbered (suc n) k before risk hazard =
-      let r = record_at site k in
-      line refl (line refl (line refl (line refl
-      (numbered_append (numbered_append (tests_numbered k (record_tests s medium r) refl) (line refl end))
-      (later_numbered n (k + 1) r.id (next s medium Risk risk r) (next s medium Hazard hazard r))))))
-
   -- inside the site, each is tried by its conditions
   walk_table : (n k before : ℕ) (risk hazard : Running) → 512 * (k + n) ≤ length site →
       walk_blocks s medium site n k before risk hazard ≡
@@ -184,12 +143,12 @@ module _ (s : Scenario) (medium : ℕ) (site : List ℕ) where
   later_table n out l =
       let sums = all_sums s medium (records_from site n 1) in
       ap (with_room (length site) out) (walk_table n 1 0 start start (omega arith)) ∙
-      room_last (later_numbered n 1 0 start start) (length site) out sums ∙
+      room_last (later_conditions s medium site n 1 0 start start) (length site) out sums ∙
       sym (first_append (later_conditions s medium site n 1 0 start start) (room_condition site out ∷ []) sums)
 
 -- ---- the site
 module _ (site : List ℕ) (out : ℕ) where
-  abbrev sums : SumsAnswer
+  abbrev sums : Result Sums Refused
   sums = all_sums (header_of site).scenario (header_of site).medium (records_from site (header_of site).count 1)
 
   -- a count that passed 5 is that of the blocks behind the header
@@ -213,9 +172,3 @@ module _ (site : List ℕ) (out : ℕ) where
   pub walked : site_answer site out ≡ walked_answer site out
   unfolding site_answer
   walked = sym (by_length (length_ok (length site)) refl)
-
-  pub site_numbered : Numbered (site_conditions site out)
-  unfolding site_conditions header_conditions
-  site_numbered =
-      line refl (line refl (line refl (line refl (line refl (line refl
-      (numbered_append (later_numbered (header_of site).scenario (header_of site).medium site (header_of site).count 1 0 start start) (line refl end)))))))

@@ -8,7 +8,10 @@ use lib.Dec.{leb}
 use lib.ListN.{length, take, drop, length-append}
 use lib.Seq.{take_at, drop_at}
 use borrow.Author.Tests.{le-leb, eq-eqb}
+use Rattle.std.specs.Prelude.{Result, Ok, Err}
 use Rattle.outcome.specs.declared.Refusal.{Refusal}
+use Rattle.outcome.specs.declared.Refused.{Refused}
+use Rattle.outcome.specs.Outcome.{refused}
 use Rattle.outcome.specs.declared.Refusal.TheVariants.{Order}
 use Rattle.inputs.specs.declared.Scenario.{Scenario}
 use Rattle.inputs.specs.declared.Contaminant.{Contaminant}
@@ -17,8 +20,6 @@ use Rattle.inputs.proofs.Tests.{and_split}
 use Rattle.words.specs.Words.{part_of}
 use Rattle.words.proofs.ReadBack.{rest_next}
 use Rattle.block_rules.specs.declared.Header.{Header}
-use Rattle.block_rules.specs.declared.ContaminantRead.{ContaminantRead}
-use Rattle.block_rules.specs.declared.ContaminantRead.TheVariants as C
 use Rattle.block_rules.specs.Rules.{in_file}
 use Rattle.block_rules.specs.Reading.{header_read, contaminant_read}
 use Rattle.block_rules.proofs.Rules.{in_file_lem}
@@ -26,13 +27,13 @@ use Rattle.block_rules.specs.Layouts.{header_block, contaminant_block}
 use Rattle.block_rules.specs.Answers.{header_fit, contaminant_fit}
 use Rattle.block_rules.proofs.HeaderBack.{header_length, header_back}
 use Rattle.block_rules.proofs.ContaminantBack.{contaminant_length, contaminant_read_back}
-use Rattle.sum_rules.specs.declared.SumsAnswer.{SumsAnswer}
+use Rattle.sum_rules.specs.declared.Sums.{Sums}
 use Rattle.sum_rules.specs.Share.{Running, start, next}
-use Rattle.sum_rules.specs.ListCall.{refused, first_refusal, taken_in, walk, sums_of}
+use Rattle.sum_rules.specs.ListCall.{first_refusal, taken_in, walk, sums_of}
 use Rattle.formulas.specs.Side.{Risk, Hazard}
 use Rattle.site_rules.specs.Blocks.{length_ok, block_at}
 use Rattle.site_rules.specs.Site.{site_answer}
-use Rattle.site_rules.proofs.Walk.{on_contaminant, walk_blocks}
+use Rattle.site_rules.proofs.Walk.{on_read, walk_blocks}
 use Rattle.site_rules.specs.Passed.{Opened}
 use Rattle.site_rules.specs.Written.{blocks_from, site_of, Writable}
 use Rattle.site_rules.specs.Written.Writable.{nobody, also}
@@ -44,7 +45,7 @@ use Rattle.site_rules.proofs.Passed.{room_kept}
 module _ (s : Scenario) (medium : ℕ) (site : List ℕ) where
   -- of the block at place k only the order is left to be tested
   block_read : (k before : ℕ) (r : Contaminant) (rest : List ℕ) → drop (512 * k) site ≡ contaminant_block k r ++ rest → 1 ≤ k → k ≤ 120 → contaminant_fits r ≡ true → r.id < 4294967296 →
-      contaminant_read (block_at site k) k before ≡ cond (leb r.id before) (C.Refused Order) (C.Found r)
+      contaminant_read (block_at site k) k before ≡ cond (leb r.id before) (Err Order) (Ok r)
   unfolding block_at part_of contaminant_fit in_file
   block_read k before r rest e l u fits small =
       ap (λ (b : List ℕ). contaminant_read (take 512 b) k before) e ∙
@@ -52,8 +53,8 @@ module _ (s : Scenario) (medium : ℕ) (site : List ℕ) where
       contaminant_read_back k before r (rw (le-leb 1 k l, le-leb k 120 u, fits)) small
 
   -- a block by its order, where the rest of the walk is the same
-  by_order : (k : ℕ) (r : Contaminant) (w : Contaminant → SumsAnswer) (v : SumsAnswer) → w r ≡ v → (b : Bool) →
-      on_contaminant (cond b (C.Refused Order) (C.Found r)) (λ (m : Refusal). refused m k) w ≡ cond b (refused Order k) v
+  by_order : (k : ℕ) (r : Contaminant) (w : Contaminant → Result Sums Refused) (v : Result Sums Refused) → w r ≡ v → (b : Bool) →
+      on_read (cond b (Err Order) (Ok r)) (λ (m : Refusal). refused m k) w ≡ cond b (refused Order k) v
   by_order k r w v e true = refl
   by_order k r w v e false = e
 
@@ -67,10 +68,10 @@ module _ (s : Scenario) (medium : ℕ) (site : List ℕ) where
       let place : 512 * k + 512 ≡ 512 * (k + 1) = omega arith in
       let behind : drop (512 * (k + 1)) site ≡ blocks_from (k + 1) rs =
       ap (λ (n : ℕ). drop n site) (sym place) ∙ rest_next site (contaminant_block k r) (blocks_from (k + 1) rs) (512 * k) 512 e (contaminant_length k r) in
-      let taken : Contaminant → SumsAnswer = λ q.
+      let taken : Contaminant → Result Sums Refused = λ q.
       taken_in s medium k risk hazard q (walk_blocks s medium site (length rs) (k + 1) q.id (next s medium Risk risk q) (next s medium Hazard hazard q)) in
       rw fits
-      (ap (λ (q : ContaminantRead). on_contaminant q (λ (m : Refusal). refused m k) taken)
+      (ap (λ (q : Result Contaminant Refusal). on_read q (λ (m : Refusal). refused m k) taken)
       (block_read k before r (blocks_from (k + 1) rs) e l (omega arith) fits small) ∙
       by_order k r taken (taken_in s medium k risk hazard r (walk s medium rs (k + 1) r.id x y))
       (ap (taken_in s medium k risk hazard r) (walk_written rs (k + 1) r.id x y all (omega arith) (omega arith) behind)) (leb r.id before))

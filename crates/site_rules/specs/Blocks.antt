@@ -1,5 +1,6 @@
 -- A site as blocks: its length, the block at a place, and what the header and each record hold.
-use Rattle.std.specs.Prelude.{ℕ, zero, suc, ◌+◌, ◌*◌, ◌%◌, List, [], ◌∷◌, Bool, ◌&&◌, eqb, leb}
+use Rattle.std.specs.Prelude.{ℕ, zero, suc, ◌+◌, ◌*◌, ◌%◌, List, [], ◌∷◌, Bool, ◌&&◌, eqb, leb, Result}
+use Rattle.outcome.specs.declared.Refused.{Refused}
 use Rattle.inputs.specs.declared.Scenario.{Scenario}
 use Rattle.inputs.specs.declared.Contaminant.{Contaminant}
 use Rattle.inputs.specs.Rules.{most_contaminants}
@@ -8,7 +9,7 @@ use Rattle.block_rules.specs.declared.Header.{Header}
 use Rattle.block_rules.specs.Rules.{block_size}
 use Rattle.block_rules.specs.Reading.{header_at, contaminant_at}
 use Rattle.formulas.specs.Side.{Risk, Hazard}
-use Rattle.sum_rules.specs.declared.SumsAnswer.{SumsAnswer}
+use Rattle.sum_rules.specs.declared.Sums.{Sums}
 use Rattle.sum_rules.specs.Share.{start, run_all}
 use Rattle.sum_rules.specs.ListCall.{accepted}
 
@@ -33,5 +34,5 @@ records_from site zero k = []
 records_from site (suc n) k = record_at site k ∷ records_from site n (k + 1)
 
 -- the answer that reports the sums of a list
-abbrev pub all_sums : Scenario → ℕ → List Contaminant → SumsAnswer
+abbrev pub all_sums : Scenario → ℕ → List Contaminant → Result Sums Refused
 all_sums s medium rs = accepted s (run_all s medium Risk start rs) (run_all s medium Hazard start rs)

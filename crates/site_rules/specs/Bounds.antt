@@ -1,12 +1,14 @@
 -- The numbers of an answer, each of which has its own byte in the word of the C library.
-use Rattle.std.specs.Prelude.{◌≤◌}
+use Rattle.std.specs.Prelude.{◌≤◌, Result}
 use Rattle.inputs.specs.Rules.{most_contaminants}
-use Rattle.outcome.specs.Outcome.{number_of, most_number}
-use Rattle.sum_rules.specs.declared.SumsAnswer.{SumsAnswer}
-use Rattle.sum_rules.specs.Verdict.{verdict_number}
+use Rattle.outcome.specs.declared.Refused.{Refused}
+use Rattle.outcome.specs.Outcome.{number_of, block_of, most_number}
+use Rattle.sum_rules.specs.declared.Sums.{Sums}
+use Rattle.formulas.specs.Side.{Risk, Hazard}
+use Rattle.sum_rules.specs.Promise.{side_sent}
 
-pub record Bounded (a : SumsAnswer) : Type 0 where
-  pub number : number_of a.refusal ≤ most_number
-  pub block : a.block ≤ most_contaminants
-  pub risk : verdict_number a.risk.verdict ≤ 4
-  pub hazard : verdict_number a.hazard.verdict ≤ 4
+pub record Bounded (a : Result Sums Refused) : Type 0 where
+  pub number : number_of a ≤ most_number
+  pub block : block_of a ≤ most_contaminants
+  pub risk : (side_sent a Risk).verdict ≤ 4
+  pub hazard : (side_sent a Hazard).verdict ≤ 4

@@ -1,9 +1,10 @@
 -- The refusals of the site call as one table (docs/SPECIFICATION.md, "What is sent back"): each condition by its number, word and plain
 -- test, and all of them in the order in which they are tried. The first that holds is sent back, with the block that was tested.
-use Rattle.std.specs.Prelude.{◌≡◌, Bool, true, false, cond, not, ◌&&◌, List, [], ◌∷◌, ◌++◌, map, ℕ, zero, suc, ◌+◌, ◌/◌, length, eqb, leb, ltb}
+use Rattle.std.specs.Prelude.{◌≡◌, Bool, true, false, cond, not, ◌&&◌, List, [], ◌∷◌, ◌++◌, map, ℕ, zero, suc, ◌+◌, ◌/◌, length, eqb, leb, ltb, Result}
 use Rattle.outcome.specs.declared.Refusal.{Refusal}
 use Rattle.outcome.specs.declared.Refusal.TheVariants.{Length, Check, Kind, Field, Count, Factor, Order, Range, Room}
-use Rattle.outcome.specs.Outcome.{Test}
+use Rattle.outcome.specs.declared.Refused.{Refused}
+use Rattle.outcome.specs.Outcome.{refused, Test}
 use Rattle.words.specs.Words.{word_at}
 use Rattle.inputs.specs.declared.Scenario.{Scenario}
 use Rattle.inputs.specs.Rules.{scenario_fits, lacks_factor, contaminant_fits}
@@ -11,9 +12,9 @@ use Rattle.block_rules.specs.Rules.{count_ok, block_size}
 use Rattle.block_rules.specs.Reading.{sound_at, header_unused, contaminant_unused}
 use Rattle.formulas.specs.Side.{Risk, Hazard}
 use Rattle.guideline_rules.specs.Pathway.{record_tests}
-use Rattle.sum_rules.specs.declared.SumsAnswer.{SumsAnswer}
+use Rattle.sum_rules.specs.declared.Sums.{Sums}
 use Rattle.sum_rules.specs.Share.{Running, start, next}
-use Rattle.sum_rules.specs.ListCall.{block_ranged, refused}
+use Rattle.sum_rules.specs.ListCall.{block_ranged}
 use Rattle.site_rules.specs.Blocks.{length_ok, block_at, header_of, record_at}
 
 -- a line of the table: what is sent back, the block that is tested, and whether the condition holds
@@ -101,7 +102,7 @@ site_conditions site out =
 
 -- ---- the first that holds
 -- what is sent back: the number and block of the first condition that holds, or this answer where none does
-abbrev pub first_holding : List Condition → SumsAnswer → SumsAnswer
+abbrev pub first_holding : List Condition → Result Sums Refused → Result Sums Refused
 first_holding [] a = a
 first_holding (c ∷ cs) a = cond c.holds (refused c.refusal c.block) (first_holding cs a)
 
@@ -115,9 +116,8 @@ pub data NoneHolds : List Condition → Type 0 where
   none : NoneHolds []
   also : {x : Condition} {cs : List Condition} → x.holds ≡ false → NoneHolds cs → NoneHolds (x ∷ cs)
 
--- the number and the block of an answer are those of the first condition that holds
-pub record FromTable (site : List ℕ) (out : ℕ) (a : SumsAnswer) : Type 0 where
+-- an answer is the refusal of the first condition that holds, with its block
+pub record FromTable (site : List ℕ) (out : ℕ) (a : Result Sums Refused) : Type 0 where
   pub line : Condition
   pub first : FirstHolds (site_conditions site out) line
-  pub refusal : line.refusal ≡ a.refusal
-  pub block : line.block ≡ a.block
+  pub is : a ≡ refused line.refusal line.block

@@ -1,9 +1,10 @@
 -- The site call of the specification: what is sent back of the bytes of a site and an output of so many bytes.
-use Rattle.std.specs.Prelude.{ℕ, List}
-use Rattle.sum_rules.specs.declared.SumsAnswer.{SumsAnswer}
+use Rattle.std.specs.Prelude.{ℕ, List, Result}
+use Rattle.outcome.specs.declared.Refused.{Refused}
+use Rattle.sum_rules.specs.declared.Sums.{Sums}
 use Rattle.site_rules.specs.Blocks.{header_of, records_from, all_sums}
 use Rattle.site_rules.specs.Refusals.{site_conditions, first_holding}
 
 -- the first condition of the table that holds, or else the sums over all records
-unfoldable pub site_answer : List ℕ → ℕ → SumsAnswer
+unfoldable pub site_answer : List ℕ → ℕ → Result Sums Refused
 site_answer site out = first_holding (site_conditions site out) (all_sums (header_of site).scenario (header_of site).medium (records_from site (header_of site).count 1))
