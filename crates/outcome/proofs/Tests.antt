@@ -5,8 +5,8 @@ use Rattle.std.specs.Prelude.{Bool, true, false, cond, ◌&&◌, Result, Ok, Err
 use mathlib.Core.Bool.{and-eq-true_iff}
 use Rattle.outcome.specs.declared.Refusal.{Refusal}
 use Rattle.outcome.specs.declared.Refused.{Refused}
-use Rattle.outcome.specs.Outcome.{Test, refusal_number, number_of, refused_by, located, passing}
-use Rattle.outcome.proofs.Numbers.{not_both, refusal_numbered}
+use Rattle.outcome.specs.Outcome.{Test, refusal_number, number_of, refused_by, refused, located, on_read, passing}
+use Rattle.outcome.proofs.Numbers.{not_both, same_value, refusal_numbered}
 
 abbrev pub all_numbers : (ℕ → Bool) → List Test → Bool
 all_numbers p [] = true
@@ -43,7 +43,7 @@ pub handed_back : {A : Type 0} (x : Result A Refused) {r : Refused} → IsErrAnd
 handed_back (Ok a) h = absurd h
 handed_back (Err e) h = ap Err h
 
-abbrev refused_told : Refused → Result ⊤ Refused → Refused
+abbrev refused_told : {A : Type 0} → Refused → Result A Refused → Refused
 refused_told d (Ok x) = d
 refused_told d (Err r) = r
 
@@ -61,3 +61,13 @@ module _ {y x : Result ⊤ Refusal} (is : y ≡ x) (k : ℕ) where
       by : (x : Result ⊤ Refusal) → located x k ≡ Ok u → x ≡ Ok tt
       by (Ok tt) e = refl
       by (Err n) e = absurd (not_both (sym e))
+
+-- ---- the same of a reader
+pub reader_refused : {A B : Type 0} (y : Result A Refusal) (k : ℕ) (g : A → Result B Refused) {r : Refused} → located y k ≡ Err r →
+    on_read y (λ (n : Refusal). refused n k) g ≡ Err r
+reader_refused (Ok a) k g e = absurd (not_both e)
+reader_refused {A} (Err n) k g {r} e = ap (λ (x : Result A Refused). Err (refused_told r x)) e
+
+pub reader_value : {A : Type 0} (y : Result A Refusal) (k : ℕ) {a : A} → located y k ≡ Ok a → y ≡ Ok a
+reader_value (Ok b) k e = ap Ok (same_value e)
+reader_value (Err n) k e = absurd (not_both (sym e))

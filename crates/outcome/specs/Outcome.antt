@@ -65,6 +65,11 @@ abbrev pub located : {A : Type 0} → Result A Refusal → ℕ → Result A Refu
 located (Ok a) block = Ok a
 located (Err n) block = refused n block
 
+-- a refusal in what was read, or what comes of the value that it holds
+abbrev pub on_read : {A B : Type 0} → Result A Refusal → (Refusal → B) → (A → B) → B
+on_read (Err n) f g = f n
+on_read (Ok a) f g = g a
+
 -- what tests of a block send back, or the answer that comes after them
 abbrev pub passing : {A : Type 0} → Result ⊤ Refusal → ℕ → Result A Refused → Result A Refused
 passing (Ok x) block a = a

@@ -4,12 +4,13 @@ use mathlib.Core.List.{List}
 use Prim.Native.Nat.{ℕ, ◌+◌, ◌*◌, ◌-◌, ◌≤◌}
 use lib.ListN.{take, drop}
 use borrow.Author.Tests.{eq-eqb}
-use Rattle.outcome.specs.Outcome.{number_of}
+use Rattle.std.specs.Prelude.{Result}
+use Rattle.outcome.specs.declared.Refused.{Refused}
 use Rattle.inputs.specs.declared.Scenario.{Scenario}
 use Rattle.inputs.specs.declared.Contaminant.{Contaminant}
 use Rattle.block_rules.specs.Reading.{contaminant_at}
 use Rattle.blocks.proofs.Answers.{contaminant_here}
-use Rattle.guideline_rules.specs.declared.GuidelineAnswer.{GuidelineAnswer}
+use Rattle.guideline_rules.specs.declared.Guidelines.{Guidelines}
 use Rattle.guideline_rules.specs.declared.SideGuidelines.{SideGuidelines}
 use Rattle.block_rules.specs.Layouts.{result_block}
 use Rattle.terms.specs.Side.{Wide, WideSide}
@@ -18,7 +19,7 @@ use Rattle.guideline.specs.Column.{ColumnFor, PrintableColumn, column_decimals}
 use Rattle.inputs.specs.Rules.{scenario_refusal, most_contaminants}
 use Rattle.inputs.specs.Limits.{share_width}
 use Rattle.guideline_rules.specs.Pathway.{record_refusal}
-use Rattle.guideline_rules.specs.Guideline.{guideline_of, accepted}
+use Rattle.guideline_rules.specs.Guideline.{guidelines_sent, guideline_of, accepted}
 use Rattle.guideline.proofs.ColumnBounds.{column_printable}
 use Rattle.guideline.proofs.Steps.{TermsOf, ColumnsOf, wide, risk_column, hazard_column, accepted_out}
 use Rattle.shares.specs.declared.Plan.{Plan}
@@ -48,8 +49,8 @@ pub block_is : (s : Scenario) (medium : ℕ) (site : List ℕ) (place : ℕ) (r 
     guideline_of s medium r ≡ accepted a b → result_block place r.class r.id a b ≡ result_at s medium site place
 unfolding result_at
 block_is s medium site place r a b e g =
-    ap (λ (z : GuidelineAnswer). result_block place r.class r.id z.risk z.hazard) (sym g) ∙
-    ap (λ (q : Contaminant). result_block place q.class q.id (guideline_of s medium q).risk (guideline_of s medium q).hazard) e
+    ap (λ (z : Result Guidelines Refused). result_block place r.class r.id (guidelines_sent z).risk (guidelines_sent z).hazard) (sym g) ∙
+    ap (λ (q : Contaminant). result_block place q.class q.id (guidelines_sent (guideline_of s medium q)).risk (guidelines_sent (guideline_of s medium q)).hazard) e
 
 module _ {p : Plan} {r : Contaminant} {w : Worked} (ready : PlanReady p) (passed : PlanFits p) (ok : RecordOk p.scenario p.medium r) (k : WorkedFor p r w) where
   can : Workable p r
@@ -75,8 +76,7 @@ module _ {p : Plan} {r : Contaminant} {w : Worked} (ready : PlanReady p) (passed
     pub guideline_is : guideline_of p.scenario p.medium r ≡ accepted (column_decimals x) (column_decimals y)
     unfolding guideline_of scenario_refusal
     guideline_is =
-        let own = record_refusal p.scenario p.medium r in
-        rw (passed.fits, passed.known, ok.fits, eq-eqb (number_of own) 0 ok.passed) (accepted_out columns_of)
+        rw (passed.fits, passed.known, ok.fits, ok.passed) (accepted_out columns_of)
 
     -- and its shares can be added
     pub shares_fit : {n : ℕ} {z : Runs} → n ≤ most_contaminants + 1 → RunsReady (share_width + n) z → Addable z w x.sum y.sum

@@ -7,7 +7,7 @@ use Rattle.inputs.specs.Limits.{share_width}
 use Rattle.formulas.specs.Side.{Risk, Hazard}
 use Rattle.shares.specs.declared.Plan.{Plan}
 use Rattle.shares.specs.declared.Runs.{Runs}
-use Rattle.sum_rules.specs.declared.SumsAnswer.{SumsAnswer}
+use Rattle.sum_rules.specs.declared.Sums.{Sums}
 use Rattle.sum_rules.specs.Share.{start, run_all}
 use Rattle.shares.specs.Plan.{PlanReady, PlanFits, running_of}
 use Rattle.sums.specs.State.{RunsReady}
@@ -41,5 +41,5 @@ pub record AllAdded (p : Plan) (site : List ℕ) (count : ℕ) (y : Runs) : Type
   pub hazard : running_of y.hazard ≡ run_all p.scenario p.medium Hazard start (records_from site count 1)
 
 -- the summary and the result blocks
-abbrev pub blocks_of : Scenario → ℕ → List ℕ → ℕ → SumsAnswer → List ℕ
+abbrev pub blocks_of : Scenario → ℕ → List ℕ → ℕ → Sums → List ℕ
 blocks_of s medium site count a = summary_block a.risk a.hazard ++ results_to s medium site count

@@ -1,7 +1,7 @@
 // The result blocks of a site in the output: each contaminant worked out and written at its place, then the summary.
 #![tactic(auto)]
 
-ghost use Rattle.std.specs.Prelude.{◌≡◌, ◌++◌, ◌+◌, ◌*◌, ◌≤◌, length, take};
+ghost use Rattle.std.specs.Prelude.{◌≡◌, ◌++◌, ◌+◌, ◌*◌, ◌≤◌, length, take, Ok};
 ghost use Rattle.block_rules.specs.Rules.{block_size};
 ghost use Rattle.words.specs.Bytes.{over};
 ghost use Rattle.site_rules.specs.Blocks.{record_at, records_from, all_sums};
@@ -11,7 +11,7 @@ ghost use Rattle.sums.specs.State.{NextRuns};
 
 use block_rules::BLOCK_SIZE;
 use shares::{Plan, Runs};
-use sum_rules::SumsAnswer;
+use sum_rules::Sums;
 
 // Works out the contaminant of one block, writes its result block and adds its shares to the sums.
 fn put_block(site: &[u8], p: Plan, place: u32, x: Runs, out: &mut [u8]) -> Runs
@@ -36,21 +36,19 @@ fn put_blocks(site: &[u8], p: Plan, count: u32, out: &mut [u8]) -> Runs
     ensures { AllAdded p site.now count result × (out.new ≡ over (take block_size out.old ++ results_to p.scenario p.medium site.now count) out.old) }
 {
     let mut x = sums::no_runs();
-    let mut k: u32 = 0;
-    while k < count {
+    for k in 0..count {
         let place = k + 1;
         let a = BLOCK_SIZE * (place as usize);
         let b = a + BLOCK_SIZE;
         x = put_block(site, p, place, x, &mut out[a..b]);
-        k += 1;
     }
     x
 }
 
 // The result blocks and, at place 0, the summary.
-pub fn put_results(site: &[u8], p: Plan, count: u32, out: &mut [u8]) -> SumsAnswer
+pub fn put_results(site: &[u8], p: Plan, count: u32, out: &mut [u8]) -> Sums
     requires { Writing p site.now count × (block_size * count + block_size ≤ length out.old) }
-    ensures { (result ≡ all_sums p.scenario p.medium (records_from site.now count 1)) × (out.new ≡ over (blocks_of p.scenario p.medium site.now count result) out.old) }
+    ensures { (Ok result ≡ all_sums p.scenario p.medium (records_from site.now count 1)) × (out.new ≡ over (blocks_of p.scenario p.medium site.now count result) out.old) }
 {
     let x = put_blocks(site, p, count, out);
     let a = sums::reported(p, x);

@@ -1,29 +1,28 @@
 -- The answer of a site and what is left in the output, by what was found: the length, the header, the blocks, the room. Assumes nothing.
-use mathlib.Core.Path.{◌≡◌, sym, ap, ◌∙◌}
-use mathlib.Core.Bool.{cond}
+use mathlib.Core.Path.{◌≡◌, refl, sym, ap, ◌∙◌}
 use mathlib.Core.List.{List}
 use Prim.Native.Nat.{ℕ, ◌+◌, ◌≤◌, ◌<◌}
 use native.Mathlib.Omega.{arith}
-use lib.Dec.{eqb}
 use lib.ListN.{length}
-use borrow.Author.Tests.{ne_eqb, lt-ltb, le-ltb}
+use borrow.Author.Tests.{lt-ltb, le-ltb}
 use Rattle.outcome.specs.declared.Refusal.TheVariants.{Room}
-use Rattle.outcome.specs.Outcome.{number_of}
+use Rattle.std.specs.Prelude.{Result, Ok, Err, ⊤}
+use Rattle.std.specs.Result.{result_and}
+use Rattle.outcome.specs.declared.Refused.{Refused}
+use Rattle.outcome.specs.Outcome.{number_of, refused}
 use Rattle.words.specs.Bytes.{over}
 use Rattle.block_rules.specs.declared.Header.{Header}
-use Rattle.sum_rules.specs.declared.SumsAnswer.{SumsAnswer}
+use Rattle.sum_rules.specs.declared.Sums.{Sums}
 use Rattle.sum_rules.specs.Share.{start}
-use Rattle.sum_rules.specs.ListCall.{refused}
 use Rattle.sum_rules.proofs.InRange.{fair_start}
-use Rattle.outcome.specs.declared.Answer.{Answer}
 use Rattle.site_rules.specs.Blocks.{records_from, all_sums, record_at}
 use Rattle.site_rules.specs.Site.{site_answer}
-use Rattle.site_rules.specs.Results.{results_of, site_left}
+use Rattle.site_rules.specs.Results.{results_of, left_of, site_left}
 use Rattle.site_rules.proofs.Walk.{walk_blocks, with_room}
 use Rattle.site.specs.Check.{check_blocks, Checking}
 use Rattle.result_blocks.specs.Writing.{blocks_of}
 use Rattle.site_rules.specs.Passed.{Opened, RecordOk}
-use Rattle.site.proofs.Walks.{answer_of, walk_checked}
+use Rattle.site.proofs.Walks.{walk_checked}
 use Rattle.site_rules.proofs.Passed.{walk_ok}
 use Rattle.site_rules.proofs.Opened.{opened_fits, opened_known, header_is, site_long, count_most, answer_walked}
 
@@ -32,29 +31,29 @@ module _ {site : List ℕ} {h : Header} (o : Opened site h) where
   pub checking : Checking h.scenario h.medium site h.count
   checking = record { fits = opened_fits o; known = opened_known o; long = omega (arith, site_long o); most = count_most o }
 
-  abbrev found : Answer
+  abbrev found : Result ⊤ Refused
   found = check_blocks h.scenario h.medium site h.count 1 0
 
-  abbrev sums : SumsAnswer
+  abbrev sums : Result Sums Refused
   sums = all_sums h.scenario h.medium (records_from site h.count 1)
 
-  walked_opened : walk_blocks h.scenario h.medium site h.count 1 0 start start ≡ answer_of found sums
+  walked_opened : walk_blocks h.scenario h.medium site h.count 1 0 start start ≡ result_and found sums
   walked_opened = walk_checked h.scenario h.medium site (opened_fits o) (opened_known o) h.count 1 0 0 start start (omega (arith, count_most o)) fair_start fair_start
 
-  answer_opened : (out : ℕ) → site_answer site out ≡ with_room (length site) out (answer_of found sums)
+  answer_opened : (out : ℕ) → site_answer site out ≡ with_room (length site) out (result_and found sums)
   answer_opened out = answer_walked o out ∙ ap (with_room (length site) out) walked_opened
 
-  pub answer_refused : (out : ℕ) → (number_of found.refusal ≡ 0 → ⊥) → site_answer site out ≡ refused found.refusal found.block
+  pub answer_refused : (out : ℕ) {r : Refused} → found ≡ Err r → site_answer site out ≡ Err r
   unfolding with_room
-  answer_refused out n = let e = ne_eqb (number_of found.refusal) 0 n in answer_opened out ∙ rw (e, e)
+  answer_refused out e = answer_opened out ∙ rw e refl
 
-  module _ (z : number_of found.refusal ≡ 0) where
-    passed : answer_of found sums ≡ sums
-    passed = rw z
+  module _ (z : found ≡ Ok tt) where
+    passed : result_and found sums ≡ sums
+    passed = rw z refl
 
     -- every record keeps its rules and has a pathway
     pub checked_records : (k : ℕ) → 1 ≤ k → k < 1 + h.count → RecordOk h.scenario h.medium (record_at site k)
-    checked_records = walk_ok h.scenario h.medium site h.count 1 0 start start (ap (λ (a : SumsAnswer). number_of a.refusal) (walked_opened ∙ passed))
+    checked_records = walk_ok h.scenario h.medium site h.count 1 0 start start (ap number_of (walked_opened ∙ passed))
 
     pub answer_room : (out : ℕ) → out < length site → site_answer site out ≡ refused Room 0
     unfolding with_room
@@ -64,9 +63,8 @@ module _ {site : List ℕ} {h : Header} (o : Opened site h) where
     unfolding with_room
     answer_sums out l = answer_opened out ∙ ap (with_room (length site) out) passed ∙ rw (le-ltb out (length site) l)
 
-    pub left_accepted : (out : List ℕ) (a : SumsAnswer) → a ≡ sums → length site ≤ length out → site_left site out ≡ over (blocks_of h.scenario h.medium site h.count a) out
+    pub left_accepted : (out : List ℕ) (a : Sums) → Ok a ≡ sums → length site ≤ length out → site_left site out ≡ over (blocks_of h.scenario h.medium site h.count a) out
     unfolding site_left results_of
     left_accepted out a e l =
-        ap (λ (x : SumsAnswer). cond (eqb (number_of x.refusal) 0) (over (results_of site x) out) out) (answer_sums (length out) l ∙ sym e) ∙
-        ap (λ (x : SumsAnswer). cond (eqb (number_of x.refusal) 0) (over (results_of site a) out) out) e ∙
+        ap (λ (x : Result Sums Refused). left_of site x out) (answer_sums (length out) l ∙ sym e) ∙
         ap (λ (k : Header). over (blocks_of k.scenario k.medium site k.count a) out) (header_is o)

@@ -1,13 +1,10 @@
--- A site whose blocks were all found: its plan is accepted, its records can be written, and what is written is the answer. Assumes nothing.
+-- A site whose blocks were all found: its plan is not refused, its records can be written, and what is written is the answer. Assumes nothing.
 use mathlib.Core.Path.{◌≡◌, sym, ap, ap₂, ◌∙◌}
-use mathlib.Core.Bool.{true, false}
 use mathlib.Core.List.{List}
 use Prim.Native.Nat.{ℕ, ◌≤◌}
 use native.Mathlib.Omega.{arith}
-use lib.Dec.{eqb}
 use lib.ListN.{length, length-append}
-use borrow.Author.Tests.{eqb-true, eqb-false}
-use Rattle.outcome.specs.Outcome.{number_of}
+use Rattle.std.specs.Prelude.{Ok}
 use Rattle.inputs.specs.declared.Scenario.{Scenario}
 use Rattle.words.specs.Bytes.{over}
 use Rattle.words.proofs.Written.{over_length}
@@ -15,10 +12,10 @@ use Rattle.block_rules.specs.declared.Header.{Header}
 use Rattle.block_rules.specs.Layouts.{summary_block}
 use Rattle.block_rules.proofs.ResultsBack.{summary_length}
 use Rattle.shares.specs.declared.Plan.{Plan}
-use Rattle.sum_rules.specs.declared.SumsAnswer.{SumsAnswer}
-use Rattle.shares.specs.Plan.{Begun}
+use Rattle.sum_rules.specs.declared.Sums.{Sums}
+use Rattle.sum_rules.specs.ListCall.{first_refusal}
+use Rattle.shares.specs.Plan.{Planned}
 use Rattle.sums.proofs.Started.{plan_fits}
-use Rattle.outcome.specs.declared.Answer.{Answer}
 use Rattle.site_rules.specs.Blocks.{records_from, all_sums}
 use Rattle.site_rules.specs.Site.{site_answer}
 use Rattle.site_rules.specs.Results.{results_to, site_left}
@@ -30,44 +27,30 @@ use Rattle.site.proofs.Answers.{checking, checked_records, answer_sums, left_acc
 use Rattle.site_rules.proofs.Opened.{count_some, count_most, site_long}
 use Rattle.site_rules.proofs.SameSums.{first_accepted}
 
--- what was found, from what the code tested
-pub found_zero : {c d : Answer} → c ≡ d → eqb (number_of c.refusal) 0 ≡ true → number_of d.refusal ≡ 0
-found_zero {c} e h = sym (ap (λ (x : Answer). number_of x.refusal) e) ∙ eqb-true (number_of c.refusal) 0 h
+-- the plan of a site whose blocks were found is never refused
+pub first_found : {site : List ℕ} {h : Header} → Opened site h → first_refusal h.scenario h.medium h.count ≡ Ok tt
+first_found {site} {h} o = first_accepted h.scenario h.medium h.count (count_some o) (count_most o) (checking o).fits (checking o).known
 
-pub found_nonzero : {c d : Answer} → c ≡ d → eqb (number_of c.refusal) 0 ≡ false → number_of d.refusal ≡ 0 → ⊥
-found_nonzero {c} e h z = eqb-false (number_of c.refusal) 0 h (ap (λ (x : Answer). number_of x.refusal) e ∙ z)
-
-module _ {site : List ℕ} {h : Header} {p : Plan} (o : Opened site h)
-    (z : number_of (check_blocks h.scenario h.medium site h.count 1 0).refusal ≡ 0)
-    (b : Begun h.scenario h.medium h.count p) where
-  plan_accepted : number_of p.refusal ≡ 0
-  plan_accepted =
-      ap number_of (b.refused ∙ first_accepted h.scenario h.medium h.count (count_some o) (count_most o) (checking o).fits (checking o).known)
-
-  same_scenario : p.scenario ≡ h.scenario
-  same_scenario = b.scenario plan_accepted
-
-  same_medium : p.medium ≡ h.medium
-  same_medium = b.media plan_accepted
-
+module _ {site : List ℕ} {h : Header} {p : Plan} (o : Opened site h) (z : check_blocks h.scenario h.medium site h.count 1 0 ≡ Ok tt)
+    (b : Planned h.scenario h.medium p) where
   pub writing : Writing p site h.count
   writing = record {
     ready = b.ready;
-    passed = plan_fits b plan_accepted;
+    passed = plan_fits h.count b (first_found o);
     long = (checking o).long;
     most = count_most o;
-    records = λ k l u. rw (same_scenario, same_medium) (checked_records o z k l u);
+    records = λ k l u. rw (b.scenario, b.media) (checked_records o z k l u);
   }
 
-  module _ {a : SumsAnswer} (d : List ℕ) {out : List ℕ} (e : a ≡ all_sums p.scenario p.medium (records_from site h.count 1))
+  module _ {a : Sums} (d : List ℕ) {out : List ℕ} (e : Ok a ≡ all_sums p.scenario p.medium (records_from site h.count 1))
       (w : out ≡ over (blocks_of p.scenario p.medium site h.count a) d) (room : length site ≤ length d) where
-    sums_are : a ≡ all_sums h.scenario h.medium (records_from site h.count 1)
-    sums_are = e ∙ ap₂ (λ (s : Scenario) (m : ℕ). all_sums s m (records_from site h.count 1)) same_scenario same_medium
+    sums_are : Ok a ≡ all_sums h.scenario h.medium (records_from site h.count 1)
+    sums_are = e ∙ ap₂ (λ (s : Scenario) (m : ℕ). all_sums s m (records_from site h.count 1)) b.scenario b.media
 
-    pub planned_sums : (a ≡ site_answer site (length d)) × (out ≡ site_left site d)
+    pub planned_sums : (Ok a ≡ site_answer site (length d)) × (out ≡ site_left site d)
     planned_sums = (
       sums_are ∙ sym (answer_sums o z (length d) room),
-      w ∙ ap₂ (λ (s : Scenario) (m : ℕ). over (blocks_of s m site h.count a) d) same_scenario same_medium ∙ sym (left_accepted o z d a sums_are room),
+      w ∙ ap₂ (λ (s : Scenario) (m : ℕ). over (blocks_of s m site h.count a) d) b.scenario b.media ∙ sym (left_accepted o z d a sums_are room),
     )
 
     pub left_length : length out ≡ length d

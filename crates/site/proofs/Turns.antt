@@ -1,56 +1,47 @@
 -- One turn of the checking walk: what is left from this place on stays the same. Assumes nothing.
-use mathlib.Core.Path.{◌≡◌, sym, ap, ◌∙◌}
-use mathlib.Core.Bool.{true, false}
-use mathlib.Core.List.{List}
-use Prim.Native.Nat.{ℕ, suc, ◌+◌, ◌-◌, ◌≤◌, ◌<◌}
-use native.Mathlib.Omega.{arith}
-use lib.Dec.{eqb}
-use Rattle.outcome.specs.Outcome.{number_of, answer}
+use Rattle.std.proofs.Common.{◌≡◌, List, ℕ, suc, ◌+◌, ◌-◌, ◌≤◌, ◌<◌, refl, ap, ◌∙◌, arith}
+use Rattle.std.specs.Prelude.{Result, Ok, Err, ⊤}
 use Rattle.outcome.specs.declared.Refusal.{Refusal}
-use Rattle.outcome.specs.declared.Refusal.TheVariants.{Accepted}
+use Rattle.outcome.specs.declared.Refused.{Refused}
+use Rattle.outcome.specs.Outcome.{refused, located, on_read, passing}
+use Rattle.outcome.proofs.Tests.{tests_refused, reader_refused}
 use Rattle.inputs.specs.declared.Scenario.{Scenario}
 use Rattle.inputs.specs.declared.Contaminant.{Contaminant}
-use Rattle.block_rules.specs.declared.ContaminantRead.{ContaminantRead}
-use Rattle.block_rules.specs.declared.ContaminantRead.TheVariants as C
 use Rattle.block_rules.specs.Reading.{contaminant_read}
 use Rattle.guideline_rules.specs.Pathway.{record_refusal}
-use Rattle.outcome.specs.declared.Answer.{Answer}
 use Rattle.site_rules.specs.Blocks.{block_at}
-use Rattle.site.specs.Check.{after_read, passing, check_blocks}
+use Rattle.site.specs.Check.{check_blocks}
 
 module _ (s : Scenario) (medium : ℕ) (site : List ℕ) where
   module _ (n k before : ℕ) (l : k < n) where
-    abbrev found : Contaminant → Answer
+    abbrev read : Result Contaminant Refusal
+    read = contaminant_read (block_at site (k + 1)) (k + 1) before
+
+    abbrev found : Contaminant → Result ⊤ Refused
     found r = passing (record_refusal s medium r) (k + 1) (check_blocks s medium site (n - (k + 1)) (k + 1 + 1) r.id)
 
-    check_turn : check_blocks s medium site (n - k) (k + 1) before ≡ after_read (contaminant_read (block_at site (k + 1)) (k + 1) before) (λ (m : Refusal). answer m (k + 1)) found
+    check_turn : check_blocks s medium site (n - k) (k + 1) before ≡ on_read read (λ (m : Refusal). refused m (k + 1)) found
     unfolding check_blocks
     check_turn =
         let e : n - k ≡ suc (n - (k + 1)) = omega arith in
         ap (λ (j : ℕ). check_blocks s medium site j (k + 1) before) e
 
-    read_turn : (x : ContaminantRead) → contaminant_read (block_at site (k + 1)) (k + 1) before ≡ x →
-        check_blocks s medium site (n - k) (k + 1) before ≡ after_read x (λ (m : Refusal). answer m (k + 1)) found
-    read_turn x e = check_turn ∙ ap (λ (y : ContaminantRead). after_read y (λ (m : Refusal). answer m (k + 1)) found) e
+    pub turn_refused : {e : Refused} → located read (k + 1) ≡ Err e → check_blocks s medium site (n - k) (k + 1) before ≡ Err e
+    turn_refused h = check_turn ∙ reader_refused read (k + 1) found h
 
-    pub turn_refused : (m : Refusal) → contaminant_read (block_at site (k + 1)) (k + 1) before ≡ C.Refused m →
-        check_blocks s medium site (n - k) (k + 1) before ≡ answer m (k + 1)
-    turn_refused m e = read_turn (C.Refused m) e
+    module _ {r : Contaminant} (is : read ≡ Ok r) where
+      by_tests : check_blocks s medium site (n - k) (k + 1) before ≡ found r
+      by_tests = check_turn ∙ rw is refl
 
-    module _ (r : Contaminant) (e : contaminant_read (block_at site (k + 1)) (k + 1) before ≡ C.Found r) where
-      by_tests : (m : Refusal) → m ≡ record_refusal s medium r →
-          check_blocks s medium site (n - k) (k + 1) before ≡ passing m (k + 1) (check_blocks s medium site (n - (k + 1)) (k + 1 + 1) r.id)
-      by_tests m q =
-          read_turn (C.Found r) e ∙ ap (λ (x : Refusal). passing x (k + 1) (check_blocks s medium site (n - (k + 1)) (k + 1 + 1) r.id)) (sym q)
+      pub turn_record : {y : Result ⊤ Refusal} {e : Refused} → y ≡ record_refusal s medium r → located y (k + 1) ≡ Err e →
+          check_blocks s medium site (n - k) (k + 1) before ≡ Err e
+      turn_record q h = by_tests ∙ tests_refused q (k + 1) _ h
 
-      pub turn_record : (m : Refusal) → m ≡ record_refusal s medium r → eqb (number_of m) 0 ≡ false → check_blocks s medium site (n - k) (k + 1) before ≡ answer m (k + 1)
-      turn_record m q z = by_tests m q ∙ rw z
-
-      pub turn_next : (m : Refusal) → m ≡ record_refusal s medium r → eqb (number_of m) 0 ≡ true →
+      pub turn_next : record_refusal s medium r ≡ Ok tt →
           check_blocks s medium site (n - k) (k + 1) before ≡ check_blocks s medium site (n - (k + 1)) (k + 1 + 1) r.id
-      turn_next m q z = by_tests m q ∙ rw z
+      turn_next z = by_tests ∙ rw z refl
 
-  pub check_none : (n k before : ℕ) → n ≤ k → check_blocks s medium site (n - k) (k + 1) before ≡ answer Accepted 0
+  pub check_none : (n k before : ℕ) → n ≤ k → check_blocks s medium site (n - k) (k + 1) before ≡ Ok tt
   unfolding check_blocks
   check_none n k before l =
       let e : n - k ≡ 0 = omega arith in

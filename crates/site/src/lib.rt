@@ -8,10 +8,10 @@ ghost use Rattle.site_rules.specs.Results.{site_left};
 ghost use Rattle.site.specs.Check.{check_blocks, Checking};
 ghost use Rattle.site_rules.specs.Passed.{Opened};
 
-use block_rules::{BLOCK_SIZE, ContaminantRead, Header, HeaderRead};
+use block_rules::{BLOCK_SIZE, Header};
 use inputs::Scenario;
-use outcome::{Answer, Refusal};
-use sum_rules::SumsAnswer;
+use outcome::{Refusal, Refused, in_block};
+use sum_rules::Sums;
 
 // The bytes of a site with one contaminant, and with 120.
 const LEAST: usize = 2 * BLOCK_SIZE;
@@ -28,71 +28,45 @@ fn length_ok(n: usize) -> bool
 
 // The first refusal of the contaminant blocks, in their order. The tests of a record look at its fields only, so no term
 // is worked out before the whole site is checked.
-fn check_blocks(site: &[u8], s: Scenario, medium: u32, count: u32) -> Answer
+fn check_blocks(site: &[u8], s: Scenario, medium: u32, count: u32) -> Result<(), Refused>
     requires { Checking s medium site.now count }
     ensures { result ≡ check_blocks s medium site.now count 1 0 }
 {
-    let mut k: u32 = 0;
     let mut previous: u32 = 0;
-    while k < count {
+    for k in 0..count {
         let place = k + 1;
         let at = BLOCK_SIZE * (place as usize);
-        match blocks::read_contaminant(site, at, place, previous) {
-            ContaminantRead::Refused(m) => {
-                return Answer {
-                    refusal: m,
-                    block: place,
-                };
-            }
-            ContaminantRead::Found(r) => {
-                let own = presence::record_refusal(s, medium, r);
-                if !outcome::accepted(own) {
-                    return Answer {
-                        refusal: own,
-                        block: place,
-                    };
-                }
-                previous = r.id;
-            }
-        }
-        k += 1;
+        let r = in_block(blocks::read_contaminant(site, at, place, previous), place)?;
+        in_block(presence::record_refusal(s, medium, r), place)?;
+        previous = r.id;
     }
-    Answer {
-        refusal: Refusal::Accepted,
-        block: 0,
-    }
+    Ok(())
 }
 
 // The site whose header was found.
-fn evaluate_blocks(site: &[u8], h: Header, out: &mut [u8]) -> SumsAnswer
+fn evaluate_blocks(site: &[u8], h: Header, out: &mut [u8]) -> Result<Sums, Refused>
     requires { Opened site.now h }
     ensures { (result ≡ site_answer site.now (length out.old)) × (out.new ≡ site_left site.now out.old) }
 {
     let s = h.scenario;
     let count = h.count;
-    let c = check_blocks(site, s, h.medium, count);
-    let refusal = c.refusal;
-    if !outcome::accepted(refusal) {
-        return sums::refused(refusal, c.block);
-    }
+    check_blocks(site, s, h.medium, count)?;
     if out.len() < site.len() {
-        return sums::refused(Refusal::Room, 0);
+        return Err(Refusal::Room.in_block(0));
     }
-    let p = shares::begin(s, h.medium, count as usize);
-    result_blocks::put_results(site, p, count, out)
+    let p = shares::begin(s, h.medium, count as usize)?;
+    Ok(result_blocks::put_results(site, p, count, out))
 }
 
 // The whole site: its sums and verdicts, and its result blocks in the output where it is accepted.
-pub fn evaluate(site: &[u8], out: &mut [u8]) -> SumsAnswer
+pub fn evaluate(site: &[u8], out: &mut [u8]) -> Result<Sums, Refused>
     ensures { (result ≡ site_answer site.now (length out.old)) × (out.new ≡ site_left site.now out.old) }
 {
     let n = site.len();
     if !length_ok(n) {
-        return sums::refused(Refusal::Length, 0);
+        return Err(Refusal::Length.in_block(0));
     }
     let blocks = (n / BLOCK_SIZE) as u32;
-    match blocks::read_header(site, blocks) {
-        HeaderRead::Refused(m) => sums::refused(m, 0),
-        HeaderRead::Found(h) => evaluate_blocks(site, h, out),
-    }
+    let h = in_block(blocks::read_header(site, blocks), 0)?;
+    evaluate_blocks(site, h, out)
 }

@@ -1,5 +1,5 @@
 -- Every answer of the site call: its number is at most the greatest and never 9, its block at most 120, its verdicts at most 4. Assumes nothing.
-use mathlib.Core.Path.{◌≡◌, refl, sym, subst}
+use mathlib.Core.Path.{◌≡◌, refl, sym, ap, subst}
 use mathlib.Core.Bool.{Bool, true, false, cond}
 use mathlib.Core.List.{List}
 use Prim.Native.Nat.{ℕ, zero, suc, ◌+◌, ◌/◌, ◌≤◌, ◌<◌}
@@ -10,7 +10,7 @@ use Rattle.outcome.specs.declared.Refusal.{Refusal}
 use Rattle.outcome.specs.declared.Refusal.TheVariants.{Length, Room}
 use Rattle.std.specs.Prelude.{Result, Ok, Err, ⊤}
 use Rattle.outcome.specs.declared.Refused.{Refused}
-use Rattle.outcome.specs.Outcome.{refusal_number, number_of, block_of, refused, passing}
+use Rattle.outcome.specs.Outcome.{located, on_read, refusal_number, number_of, block_of, refused, passing}
 use Rattle.inputs.specs.declared.Scenario.{Scenario}
 use Rattle.inputs.specs.declared.Contaminant.{Contaminant}
 use Rattle.inputs.specs.Rules.{scenario_fits, lacks_factor, most_contaminants}
@@ -31,7 +31,7 @@ use Rattle.sum_rules.proofs.AnswerBounds.{verdict_most}
 use Rattle.sum_rules.proofs.InRange.{FairRun, fair_start, fair_next, in_range_lem}
 use Rattle.site_rules.specs.Blocks.{length_ok, block_at}
 use Rattle.site_rules.specs.Site.{site_answer}
-use Rattle.site_rules.proofs.Walk.{on_read, walk_blocks, with_room}
+use Rattle.site_rules.proofs.Walk.{walk_blocks, with_room}
 use Rattle.site_rules.specs.Passed.{Opened}
 use Rattle.site_rules.specs.Bounds.{Bounded}
 use Rattle.site_rules.proofs.Opened.{found_record, opened_fits, opened_known, count_most, answer_length, answer_header, answer_walked}
@@ -105,7 +105,7 @@ module _ (site : List ℕ) (out : ℕ) where
 
   by_header : length_ok (length site) ≡ true → (x : Result Header Refusal) → header_read (block_at site 0) (length site / 512) ≡ x → Small 121 (site_answer site out)
   by_header r (Err m) e =
-      subst (Small 121) (sym (answer_header site out m r e))
+      subst (Small 121) (sym (answer_header site out r (ap (λ (x : Result Header Refusal). located x 0) e)))
       (at_start 120 m (λ h. omega (arith, h, (header_sent (block_at site 0) (length site / 512) m e).most)))
   by_header r (Ok h) e = opened_small h (record { right = r; header = e })
 

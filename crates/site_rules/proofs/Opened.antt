@@ -11,7 +11,8 @@ use Rattle.outcome.specs.declared.Refusal.{Refusal}
 use Rattle.outcome.specs.declared.Refusal.TheVariants.{Length}
 use Rattle.std.specs.Prelude.{Ok, Err}
 use Rattle.outcome.specs.declared.Refused.{Refused}
-use Rattle.outcome.specs.Outcome.{refused}
+use Rattle.outcome.specs.Outcome.{refused, located}
+use Rattle.outcome.proofs.Tests.{reader_refused}
 use Rattle.inputs.specs.Rules.{scenario_fits, lacks_factor}
 use Rattle.inputs.proofs.Tests.{and_split}
 use Rattle.block_rules.specs.declared.Header.{Header}
@@ -38,10 +39,10 @@ pub answer_length : (site : List ℕ) (out : ℕ) → length_ok (length site) �
 unfolding walked_answer
 answer_length site out e = walked site out ∙ rw e
 
-pub answer_header : (site : List ℕ) (out : ℕ) (m : Refusal) → length_ok (length site) ≡ true → header_read (block_at site 0) (length site / 512) ≡ Err m →
-    site_answer site out ≡ refused m 0
+pub answer_header : (site : List ℕ) (out : ℕ) {r : Refused} → length_ok (length site) ≡ true →
+    located (header_read (block_at site 0) (length site / 512)) 0 ≡ Err r → site_answer site out ≡ Err r
 unfolding walked_answer
-answer_header site out m e h = walked site out ∙ rw (e, h)
+answer_header site out e h = walked site out ∙ rw e (reader_refused (header_read (block_at site 0) (length site / 512)) 0 _ h)
 
 -- a contaminant that was found is the record of its block, and keeps its rules
 pub found_record : (site : List ℕ) (k before : ℕ) (r : Contaminant) → contaminant_read (block_at site k) k before ≡ Ok r → ContaminantFacts (block_at site k) before r

@@ -10,7 +10,7 @@ use borrow.Author.Tests.{eqb-true, eqb-false, ltb-false, le-ltb}
 use Rattle.outcome.specs.declared.Refusal.TheVariants.{Room}
 use Rattle.std.specs.Prelude.{Result, Ok, Err}
 use Rattle.outcome.specs.declared.Refused.{Refused}
-use Rattle.outcome.specs.Outcome.{refused, number_of}
+use Rattle.outcome.specs.Outcome.{located, on_read, refused, number_of}
 use Rattle.outcome.proofs.Numbers.{refusal_numbered}
 use Rattle.block_rules.specs.declared.Header.{Header}
 use Rattle.block_rules.specs.Reading.{header_read, contaminant_read}
@@ -21,7 +21,7 @@ use Rattle.sum_rules.proofs.TakenIn.{taken_passed}
 use Rattle.formulas.specs.Side.{Risk, Hazard}
 use Rattle.site_rules.specs.Blocks.{length_ok, block_at, header_of, record_at}
 use Rattle.site_rules.specs.Site.{site_answer}
-use Rattle.site_rules.proofs.Walk.{walk_blocks, with_room, on_read}
+use Rattle.site_rules.proofs.Walk.{walk_blocks, with_room}
 use Rattle.inputs.specs.declared.Scenario.{Scenario}
 use Rattle.inputs.specs.declared.Contaminant.{Contaminant}
 use mathlib.Core.Logic.{◌⊎◌, inl, inr}
@@ -104,7 +104,7 @@ module _ (site : List ℕ) (out : ℕ) (z : number_of (site_answer site out) ≡
 
   -- ---- the header and the length
   by_header : length_ok (length site) ≡ true → (x : Result Header Refusal) → header_read (block_at site 0) (length site / 512) ≡ x → PassedSite site out (header_of site)
-  by_header r (Err m) e = absurd ((refusal_numbered m).some (accepted_as (answer_header site out m r e) z))
+  by_header r (Err m) e = absurd ((refusal_numbered m).some (accepted_as (answer_header site out r (ap (λ (x : Result Header Refusal). located x 0) e)) z))
   by_header r (Ok h) e =
       let o : Opened site h = record { right = r; header = e } in
       subst (PassedSite site out) (sym (header_is o)) (with_header h o)

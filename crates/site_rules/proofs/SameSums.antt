@@ -8,7 +8,7 @@ use borrow.Author.Tests.{lt-leb, le-leb}
 use Rattle.outcome.specs.declared.Refusal.{Refusal}
 use Rattle.std.specs.Prelude.{Result, Ok, Err}
 use Rattle.outcome.specs.declared.Refused.{Refused}
-use Rattle.outcome.specs.Outcome.{refused, number_of}
+use Rattle.outcome.specs.Outcome.{on_read, refused, number_of}
 use Rattle.outcome.proofs.Numbers.{refusal_numbered}
 use Rattle.inputs.specs.declared.Scenario.{Scenario}
 use Rattle.inputs.specs.declared.Contaminant.{Contaminant}
@@ -21,7 +21,7 @@ use Rattle.sum_rules.specs.ListCall.{first_refusal, taken_in, walk, sums_of}
 use Rattle.sum_rules.proofs.TakenIn.{taken_passed}
 use Rattle.site_rules.specs.Blocks.{block_at, header_of, record_at, records_from}
 use Rattle.site_rules.specs.Site.{site_answer}
-use Rattle.site_rules.proofs.Walk.{on_read, walk_blocks}
+use Rattle.site_rules.proofs.Walk.{walk_blocks}
 use Rattle.site_rules.specs.Passed.{Opened}
 use Rattle.site_rules.proofs.Opened.{found_record, found_is, opened_fits, opened_known, count_some, count_most}
 use Rattle.site_rules.proofs.Passed.{accepted_as, passed_site}

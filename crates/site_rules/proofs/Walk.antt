@@ -9,7 +9,7 @@ use Rattle.outcome.specs.declared.Refusal.{Refusal}
 use Rattle.outcome.specs.declared.Refusal.TheVariants.{Length, Room}
 use Rattle.std.specs.Prelude.{Result, Ok, Err}
 use Rattle.outcome.specs.declared.Refused.{Refused}
-use Rattle.outcome.specs.Outcome.{refused}
+use Rattle.outcome.specs.Outcome.{refused, on_read}
 use Rattle.inputs.specs.declared.Scenario.{Scenario}
 use Rattle.inputs.specs.declared.Contaminant.{Contaminant}
 use Rattle.block_rules.specs.declared.Header.{Header}
@@ -20,11 +20,6 @@ use Rattle.sum_rules.specs.declared.Sums.{Sums}
 use Rattle.sum_rules.specs.Share.{Running, start, next}
 use Rattle.sum_rules.specs.ListCall.{accepted, taken_in}
 use Rattle.site_rules.specs.Blocks.{length_ok, block_at}
-
--- a block that is refused, or what it holds
-abbrev pub on_read : {A B : Type 0} → Result A Refusal → (Refusal → B) → (A → B) → B
-on_read (Err n) f g = f n
-on_read (Ok a) f g = g a
 
 -- n blocks, the first at place k, after the id `before` and with these sums so far: 2, 3, 4 and 7 by `contaminant_read`, then as the list call
 unfoldable pub walk_blocks : Scenario → ℕ → List ℕ → ℕ → ℕ → ℕ → Running → Running → Result Sums Refused

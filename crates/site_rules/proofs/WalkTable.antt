@@ -11,7 +11,7 @@ use Rattle.outcome.specs.declared.Refusal.{Refusal}
 use Rattle.outcome.specs.declared.Refusal.TheVariants.{Check, Kind, Field, Count, Factor, Order, Range}
 use Rattle.std.specs.Prelude.{Result, Ok, Err}
 use Rattle.outcome.specs.declared.Refused.{Refused}
-use Rattle.outcome.specs.Outcome.{refused, Test, refused_by, passing}
+use Rattle.outcome.specs.Outcome.{on_read, refused, Test, refused_by, passing}
 use Rattle.words.specs.Words.{word_at}
 use Rattle.inputs.specs.declared.Scenario.{Scenario}
 use Rattle.inputs.specs.declared.Contaminant.{Contaminant}
@@ -32,7 +32,7 @@ use Rattle.site_rules.specs.Site.{site_answer}
 use Rattle.site_rules.specs.Refusals.{Condition, in_block, header_conditions, record_conditions, range_condition, block_conditions, later_conditions, room_condition, site_conditions}
 use Rattle.site_rules.specs.Refusals.{first_holding, FirstHolds}
 use Rattle.site_rules.specs.Refusals.FirstHolds.{here, later}
-use Rattle.site_rules.proofs.Walk.{on_read, walk_blocks, with_room, walked_answer}
+use Rattle.site_rules.proofs.Walk.{walk_blocks, with_room, walked_answer}
 use Rattle.site_rules.proofs.RightLength.{right_length}
 
 -- ---- the first that holds

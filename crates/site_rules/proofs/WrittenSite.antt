@@ -11,7 +11,7 @@ use borrow.Author.Tests.{le-leb, eq-eqb}
 use Rattle.std.specs.Prelude.{Result, Ok, Err}
 use Rattle.outcome.specs.declared.Refusal.{Refusal}
 use Rattle.outcome.specs.declared.Refused.{Refused}
-use Rattle.outcome.specs.Outcome.{refused}
+use Rattle.outcome.specs.Outcome.{on_read, refused}
 use Rattle.outcome.specs.declared.Refusal.TheVariants.{Order}
 use Rattle.inputs.specs.declared.Scenario.{Scenario}
 use Rattle.inputs.specs.declared.Contaminant.{Contaminant}
@@ -33,7 +33,7 @@ use Rattle.sum_rules.specs.ListCall.{first_refusal, taken_in, walk, sums_of}
 use Rattle.formulas.specs.Side.{Risk, Hazard}
 use Rattle.site_rules.specs.Blocks.{length_ok, block_at}
 use Rattle.site_rules.specs.Site.{site_answer}
-use Rattle.site_rules.proofs.Walk.{on_read, walk_blocks}
+use Rattle.site_rules.proofs.Walk.{walk_blocks}
 use Rattle.site_rules.specs.Passed.{Opened}
 use Rattle.site_rules.specs.Written.{blocks_from, site_of, Writable}
 use Rattle.site_rules.specs.Written.Writable.{nobody, also}

@@ -1,5 +1,5 @@
 -- `result_blocks::put_results`: the sums over all records, and the summary before the result blocks.
-use Rattle.std.proofs.Common.{◌≡◌, ℕ, ◌+◌, ◌*◌, ◌≤◌, List, ◌++◌, length, take, drop, ap, ap₂, ◌∙◌, arith, length-append}
+use Rattle.std.proofs.Common.{Ok, ◌≡◌, ℕ, ◌+◌, ◌*◌, ◌≤◌, List, ◌++◌, length, take, drop, ap, ap₂, ◌∙◌, arith, length-append}
 use lib.Seq.{length-take-le}
 use Rattle.words.specs.Bytes.{over}
 use Rattle.words.proofs.Written.{over_length}
@@ -51,6 +51,6 @@ pub returns : goal.returns
 returns c =
     let a = c.args in
     let added = c.put_blocks-x.ensures.0 in (
-      c.reported-a.ensures ∙ ap₂ (accepted a.p.scenario) added.risk added.hazard,
+      ap Ok c.reported-a.ensures ∙ ap₂ (accepted a.p.scenario) added.risk added.hazard,
       written a.p a.site.now a.count a.out.now c.put_blocks-x.ensures.1 c.requires.1 _ _ c.put_summary.ensures,
     )

@@ -1,13 +1,7 @@
 -- `site::check_blocks`: what is found from this place on is what is found from the first.
-use Rattle.std.proofs.Common.{◌≡◌, ◌+◌, ◌-◌, ◌≤◌}
+use Rattle.std.proofs.Common.{◌≡◌, ◌+◌, ◌-◌}
 use Rattle.site.specs.Check.{check_blocks}
 use Rattle.site.proofs.check_blocks.Given as goal
 
 abbrev pub invariant-loop-k : goal.invariant-loop-k
-invariant-loop-k l = record {
-  upto : l.k ≤ l.count;
-  same : check_blocks l.s l.medium l.site (l.count - l.k) (l.k + 1) l.previous ≡ check_blocks l.s l.medium l.site l.count 1 0;
-}
-
-abbrev pub decreases-loop-k : goal.decreases-loop-k
-decreases-loop-k l = l.count - l.k
+invariant-loop-k l = check_blocks l.s l.medium l.site (l.count - l.k) (l.k + 1) l.previous ≡ check_blocks l.s l.medium l.site l.count 1 0

@@ -1,6 +1,10 @@
 -- `site::evaluate`: a refusal of the length or the header leaves the output as it was; past them the blocks are evaluated.
-use Rattle.std.proofs.Common.{◌/◌, length, sym, ◌∙◌, arith}
-use Rattle.block_rules.proofs.Found.{header_refused}
+use Rattle.std.proofs.Common.{◌≡◌, ◌/◌, ℕ, length, sym, ap, ◌∙◌, arith}
+use Rattle.std.specs.Prelude.{Result}
+use Rattle.outcome.specs.declared.Refusal.{Refusal}
+use Rattle.outcome.specs.Outcome.{located}
+use Rattle.outcome.proofs.Tests.{handed_back, reader_value}
+use Rattle.block_rules.specs.declared.Header.{Header}
 use Rattle.site_rules.specs.Blocks.{block_at}
 use Rattle.site_rules.proofs.RightLength.{right_length}
 use Rattle.site_rules.proofs.Opened.{answer_length, answer_header, left_refused}
@@ -11,26 +15,25 @@ returns-then-not-length_ok c =
     let site = c.args.site.now in
     let out = c.args.out.now in
     let e = answer_length site (length out) (sym c.length_ok.ensures ∙ c.if-not-length_ok.true) in
-    (c.refused.ensures ∙ sym e, sym (left_refused site out _ e (λ q. omega (arith, q))))
+    (ap Err c.in_block.ensures ∙ sym e, sym (left_refused site out e))
 
 pub overflow_cast-blocks : goal.overflow_cast-blocks
 overflow_cast-blocks c =
     let w = (right_length (length c.args.site.now) (sym c.length_ok.ensures ∙ c.if-not-length_ok.false)).most in
     omega (arith, w)
 
-pub evaluate_blocks-requires : goal.evaluate_blocks-requires
+pub returns-in_err-h : goal.returns-in_err-h
 unfolding block_at
-evaluate_blocks-requires c = record { right = sym c.length_ok.ensures ∙ c.if-not-length_ok.false; header = sym c.in-Found.ensures }
-
-pub returns-in-Refused : goal.returns-in-Refused
-unfolding block_at
-returns-in-Refused c =
+returns-in_err-h c =
     let site = c.args.site.now in
     let out = c.args.out.now in
-    let m = c.in-Refused.m in
-    let f = sym c.in-Refused.ensures in
-    let e = answer_header site (length out) m (sym c.length_ok.ensures ∙ c.if-not-length_ok.false) f in
-    (c.refused-in-Refused.ensures ∙ sym e, sym (left_refused site out _ e (header_refused (block_at site 0) (length site / 512) m f)))
+    let f = ap (λ (x : Result Header Refusal). located x 0) (sym c.read_header.ensures) ∙ sym c.in_err-h.ensures in
+    let e = answer_header site (length out) (sym c.length_ok.ensures ∙ c.if-not-length_ok.false) f in
+    (handed_back c.from_residual.result c.from_residual.ensures.1 ∙ sym e, sym (left_refused site out e))
 
-pub returns-in-Found : goal.returns-in-Found
-returns-in-Found c = c.evaluate_blocks.ensures
+pub evaluate_blocks-requires : goal.evaluate_blocks-requires
+unfolding block_at
+evaluate_blocks-requires c = record {
+  right = sym c.length_ok.ensures ∙ c.if-not-length_ok.false;
+  header = sym c.read_header.ensures ∙ reader_value c.read_header.result 0 (sym c.in_ok-h.ensures);
+}
