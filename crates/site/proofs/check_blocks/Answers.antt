@@ -1,6 +1,6 @@
 -- `site::check_blocks`: a block that is refused, a record that is refused, or the next place; at the end nothing is left.
 use Rattle.std.proofs.Common.{◌≡◌, ℕ, ◌+◌, ◌-◌, sym, ap, ◌∙◌, arith}
-use Rattle.std.specs.Prelude.{Result}
+use Rattle.std.specs.Prelude.{Result, Ok}
 use Rattle.outcome.specs.declared.Refusal.{Refusal}
 use Rattle.outcome.specs.Outcome.{located}
 use Rattle.outcome.proofs.Tests.{handed_back, tests_passed, reader_value}

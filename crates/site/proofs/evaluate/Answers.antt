@@ -1,6 +1,6 @@
 -- `site::evaluate`: a refusal of the length or the header leaves the output as it was; past them the blocks are evaluated.
 use Rattle.std.proofs.Common.{◌≡◌, ◌/◌, ℕ, length, sym, ap, ◌∙◌, arith}
-use Rattle.std.specs.Prelude.{Result}
+use Rattle.std.specs.Prelude.{Result, Err}
 use Rattle.outcome.specs.declared.Refusal.{Refusal}
 use Rattle.outcome.specs.Outcome.{located}
 use Rattle.outcome.proofs.Tests.{handed_back, reader_value}
