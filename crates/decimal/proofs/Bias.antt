@@ -1,16 +1,15 @@
 -- Signed exponents against e + 3000: all that is known of ℤ in the crate. Assumes nothing.
-use mathlib.Core.Path.{◌≡◌, refl, sym, ap, subst, ◌∙◌}
+use mathlib.Core.Path.{◌≡◌, refl, ap}
 use mathlib.Core.Bool.{Bool, true, false, cond}
-use Prim.Native.Nat.{ℕ, suc, ◌+◌, ◌-◌, ◌≤◌, ◌<◌}
-use native.Mathlib.Nat.{add_comm}
+use Prim.Native.Nat.{ℕ, suc, ◌+◌, ◌-◌, ◌<◌}
 use native.Mathlib.Omega.{arith}
-use lib.IntN.{ℤ, pos, negsuc, ◌+ℤ◌, ◌-ℤ◌, sub_ℕ, nat_abs}
-use lib.Signed.{lt_z, mag, non_neg}
-use lib.Dec.{T, leb, ltb, lit≤}
-use mir.Syntax.{w32, w64}
-use mir.Val.{SFits, Fits, to_z, of_z}
-use mir.Facts.{to_z-of_z, to_z_pos}
-use borrow.Author.Tests.{ltb-true, ltb-false, leb-true, le-leb, lt-leb, lt-ltb, le-ltb}
+use lib.IntN.{ℤ, pos, negsuc, sub_ℕ}
+use lib.Signed.{mag}
+use lib.Dec.{leb, ltb}
+use mir.Syntax.{w32}
+use mir.Val.{to_z, of_z}
+use mir.Facts.{to_z-of_z}
+use borrow.Author.Tests.{ltb-true, ltb-false, leb-true, le-leb, lt-ltb, le-ltb}
 use Rattle.decimal.specs.Exponent.{raised, raise, in_range}
 
 -- ---- a raised exponent is 0, or lies from 2001 to 3999

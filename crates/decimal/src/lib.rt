@@ -104,21 +104,21 @@ impl Decimal {
     pub fn mul(self, other: Decimal, dir: Direction) -> Decimal
         ensures { result ≡ mul_of self other dir }
     {
-        operate(self, other, move |p, q| p.mul(q, dir))
+        operate(self, other, |p, q| p.mul(q, dir))
     }
 
     // The quotient, rounded; (0, 0) where the divisor is zero.
     pub fn div(self, other: Decimal, dir: Direction) -> Decimal
         ensures { result ≡ div_of self other dir }
     {
-        operate(self, other, move |p, q| p.div(q, dir))
+        operate(self, other, |p, q| p.div(q, dir))
     }
 
     // The sum, rounded.
     pub fn add(self, other: Decimal, dir: Direction) -> Decimal
         ensures { result ≡ add_of self other dir }
     {
-        operate(self, other, move |p, q| p.add(q, dir))
+        operate(self, other, |p, q| p.add(q, dir))
     }
 
     // The same value as a working decimal; (0, 0) for m above 999,999,999 or e outside -999 to 999.

@@ -2,17 +2,16 @@
 use mathlib.Core.Path.{◌≡◌, refl, sym, ap, ◌∙◌}
 use mathlib.Core.Bool.{Bool, true, false, cond}
 use Prim.Native.Nat.{ℕ, ◌+◌, ◌*◌, ◌^◌, ◌≤◌, ◌<◌}
-use native.Mathlib.Nat.{mul-le-mul, pow-le-pow_right, lt_of_lt_of_le}
+use native.Mathlib.Nat.{pow-le-pow_right, lt_of_lt_of_le}
 use native.Mathlib.Omega.{arith}
 use lib.Dec.{ltb, leb, lit<, lit≤}
 use borrow.Author.Tests.{ltb-true, ltb-false, leb-true, leb-false}
 use Rattle.rounding.specs.declared.Direction.{Direction}
-use Rattle.rounding.specs.declared.Direction.TheVariants.{Down, Up}
 use Rattle.rounding.specs.declared.Number.{Number}
 use Rattle.rounding.specs.Number.{InRange, rank_of, Result, SumResult}
-use Rattle.rounding.specs.Round.{extra_of, divide_of, cut_of, round_of}
+use Rattle.rounding.specs.Round.{divide_of, cut_of, round_of}
 use Rattle.rounding.specs.Operations.{dividend_of, divisor_of, gap_of, aligned_of, sum_of}
-use Rattle.rounding.proofs.WholeQuotients.{divide_most, divide_beside, divide_small}
+use Rattle.rounding.proofs.WholeQuotients.{divide_beside, divide_small}
 use Rattle.rounding.proofs.Greatest.{pow_ten_pos}
 
 -- ---- the shorter quotient is picked field by field

@@ -1,5 +1,5 @@
 -- `decimal::Decimal::working`: zero for what has no working form, else the number's working form.
-use Rattle.std.proofs.Common.{rules, ap, ◌∙◌, arith, ne_eqb}
+use Rattle.std.proofs.Common.{ap, ◌∙◌, arith, ne_eqb}
 use borrow.Author.Tests.{le-leb}
 use Rattle.std.proofs.lemmas.Bool.Decides.{nat_tests}
 use Rattle.rounding.specs.declared.Number.{Number}
