@@ -98,6 +98,7 @@ fn operate<F: FnOnce(Number, Number) -> Number>(a: Decimal, b: Decimal, operatio
 }
 
 impl Decimal {
+    // (0, 0).
     pub const ZERO: Decimal = Decimal { m: 0, e: 0 };
 
     // The product, rounded.
