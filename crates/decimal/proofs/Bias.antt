@@ -1,29 +1,16 @@
 -- Signed exponents against e + 3000: all that is known of ℤ in the crate. Assumes nothing.
-use mathlib.Core.Path.{◌≡◌, refl, sym, ap, subst, ◌∙◌}
+use mathlib.Core.Path.{◌≡◌, refl, ap}
 use mathlib.Core.Bool.{Bool, true, false, cond}
-use Prim.Native.Nat.{ℕ, suc, ◌+◌, ◌-◌, ◌≤◌, ◌<◌}
-use native.Mathlib.Nat.{add_comm}
+use Prim.Native.Nat.{ℕ, suc, ◌+◌, ◌-◌, ◌<◌}
 use native.Mathlib.Omega.{arith}
-use lib.IntN.{ℤ, pos, negsuc, ◌+ℤ◌, ◌-ℤ◌, sub_ℕ, nat_abs}
-use lib.Signed.{lt_z, mag, non_neg}
-use lib.Dec.{T, leb, ltb, lit≤}
-use mir.Syntax.{w32, w64}
-use mir.Val.{SFits, Fits, to_z, of_z}
-use mir.Facts.{to_z-of_z, to_z_pos}
-use borrow.Author.Tests.{ltb-true, ltb-false, leb-true, le-leb, lt-leb, lt-ltb, le-ltb}
+use lib.IntN.{ℤ, pos, negsuc, sub_ℕ}
+use lib.Signed.{mag}
+use lib.Dec.{leb, ltb}
+use mir.Syntax.{w32}
+use mir.Val.{to_z, of_z}
+use mir.Facts.{to_z-of_z}
+use borrow.Author.Tests.{ltb-true, ltb-false, leb-true, le-leb, lt-ltb, le-ltb}
 use Rattle.decimal.specs.Exponent.{raised, raise, in_range}
-
-too_low : (z : ℤ) → lt_z z (negsuc 998) ≡ true → 0 ≡ raised z
-too_low (pos n) e = cc
-too_low (negsuc n) e = rw (le-ltb n 999 (omega (arith, ltb-true 998 n e)))
-
-too_high : (z : ℤ) → lt_z (pos 999) z ≡ true → 0 ≡ raised z
-too_high (pos n) e = rw (lt-leb n 999 (omega (arith, ltb-true 999 n e)))
-too_high (negsuc n) e = cc
-
-in_range_lem : (z : ℤ) → lt_z z (negsuc 998) ≡ false → lt_z (pos 999) z ≡ false → z +ℤ pos 3000 ≡ pos (raised z)
-in_range_lem (pos n) e f = rw (le-leb n 999 (omega (arith, ltb-false 999 n f))) (ap pos (add_comm n 3000))
-in_range_lem (negsuc n) e f = let h : n ≤ 998 = ltb-false 998 n e in rw (lt-ltb n 999 (omega arith), le-ltb 3000 (suc n) (omega arith)) (ap pos (omega arith))
 
 -- ---- a raised exponent is 0, or lies from 2001 to 3999
 pub raised_bounds : (e : ℤ) → (raised e ≡ 0 → ⊥) → (2000 < raised e) × (raised e < 4000)
@@ -38,18 +25,6 @@ raised_bounds (negsuc n) h = cases (ltb n 999) refl h
     cases true p h = omega (arith, ltb-true n 999 p)
     cases false p h = absurd (h refl)
 
-raised_most : (z : ℤ) → raised z ≤ 3999
-raised_most (pos n) = cases (leb n 999) refl
-  where
-    cases : (b : Bool) → leb n 999 ≡ b → cond b (3000 + n) 0 ≤ 3999
-    cases true e = omega (arith, leb-true n 999 e)
-    cases false e = lit≤ tt
-raised_most (negsuc n) = cases (ltb n 999)
-  where
-    cases : (b : Bool) → cond b (2999 - n) 0 ≤ 3999
-    cases true = omega arith
-    cases false = lit≤ tt
-
 -- where it is not 0, it is the exponent
 pub raised_is : (e : ℤ) → 0 < raised e → raise e ≡ raised e
 raised_is e = cases (in_range e)
@@ -57,45 +32,6 @@ raised_is e = cases (in_range e)
     cases : (b : Bool) → 0 < cond b (raise e) 0 → raise e ≡ cond b (raise e) 0
     cases true p = refl
     cases false p = absurd (omega (arith, p))
-
--- ---- from the signed exponent
-module _ (z : ℤ) (fits : SFits w32 z) where
-  pub is_low : lt_z (to_z w32 (of_z w32 z)) (negsuc 998) ≡ true → 0 ≡ raised z
-  is_low e = too_low z (rw (to_z-of_z fits) at e)
-
-  pub is_high : lt_z (pos 999) (to_z w32 (of_z w32 z)) ≡ true → 0 ≡ raised z
-  is_high e = too_high z (rw (to_z-of_z fits) at e)
-
-  module _ (e : lt_z (to_z w32 (of_z w32 z)) (negsuc 998) ≡ false) (f : lt_z (pos 999) (to_z w32 (of_z w32 z)) ≡ false) where
-    sum_is : to_z w32 (of_z w32 z) +ℤ pos 3000 ≡ pos (raised z)
-    sum_is = rw (to_z-of_z fits) (in_range_lem z (rw (to_z-of_z fits) at e) (rw (to_z-of_z fits) at f))
-
-    pub sum_fits : SFits w32 (to_z w32 (of_z w32 z) +ℤ pos 3000)
-    sum_fits = rw sum_is (record { sfits = omega (arith, raised_most z) })
-
-    read_is : to_z w32 (of_z w32 (to_z w32 (of_z w32 z) +ℤ pos 3000)) ≡ pos (raised z)
-    read_is = to_z-of_z sum_fits ∙ sum_is
-
-    pub read_fits : T (non_neg (to_z w32 (of_z w32 (to_z w32 (of_z w32 z) +ℤ pos 3000)))) × Fits w64 (nat_abs (to_z w32 (of_z w32 (to_z w32 (of_z w32 z) +ℤ pos 3000))))
-    read_fits = subst (λ (v : ℤ). T (non_neg v) × Fits w64 (nat_abs v)) (sym read_is) (tt, record { fits = omega (arith, raised_most z) })
-
-    pub read_value : nat_abs (to_z w32 (of_z w32 (to_z w32 (of_z w32 z) +ℤ pos 3000))) ≡ raised z
-    read_value = ap nat_abs read_is
-
--- ---- and back to it
-lowered_fits : (x : ℕ) (b : Bool) → x ≤ 10000 → SFits w32 (cond b (negsuc (3000 - suc x)) (pos (x - 3000)))
-lowered_fits x true h = record { sfits = omega arith }
-lowered_fits x false h = record { sfits = omega arith }
-
-module _ (x : ℕ) (h : x ≤ 10000) where
-  less_is : to_z w32 x -ℤ pos 3000 ≡ sub_ℕ x 3000
-  less_is = rw (to_z_pos w32 {n = x} (omega arith))
-
-  pub less_fits : SFits w32 (to_z w32 x -ℤ pos 3000)
-  less_fits = rw less_is (lowered_fits x (ltb x 3000) h)
-
-  pub less_value : to_z w32 (of_z w32 (to_z w32 x -ℤ pos 3000)) ≡ sub_ℕ x 3000
-  less_value = to_z-of_z less_fits ∙ less_is
 
 -- a signed field that was read and passed on is the field
 pub passed : (e : ℤ) {x : ℕ} → mag e < 2147483648 → x ≡ raised (to_z w32 (of_z w32 e)) → x ≡ raised e

@@ -6,10 +6,11 @@ use Prim.Native.Nat.{ℕ, ◌*◌, ◌^◌, ◌<◌}
 use native.Mathlib.Omega.{arith}
 use lib.Dec.{eqb, leb}
 use borrow.Author.Tests.{eqb-true, eqb-false, leb-true, ne_eqb, le-leb, not-true}
+use Rattle.std.proofs.Common.{Option, Some, None}
+use Rattle.std.specs.Prelude.{MatchOption}
 use Rattle.rounding.specs.declared.Number.{Number}
 use Rattle.rounding.specs.Number.{worth, Nine, Working, InRange, at_most_of as Number-atMostOf}
 use Rattle.decimal.specs.declared.Decimal.{Decimal}
-use Rattle.decimal.specs.declared.Pair.{Pair}
 use Rattle.decimal.specs.Exponent.{raise, raised}
 use Rattle.decimal.specs.Decimal.{zero_of, biased_of, decimal_of, value_of, is_operand, are_operands, operands_of, at_most_of}
 use Rattle.decimal.proofs.Bias.{raised_bounds, raised_is}
@@ -49,46 +50,51 @@ is_operand_lem r n p = rw (ne_eqb r.m 0 (omega (arith, n.least)), le-leb 1000000
 pub exponent_is : (d : Decimal) → is_operand (biased_of d) ≡ true → raise d.e ≡ raised d.e
 exponent_is d h = raised_is d.e (omega (arith, (operand_is d h).range.low))
 
--- ---- a pair of operands is made and tested
-pub pair_made : (a b : Decimal) (p q : Number) (g f s : Bool) → p ≡ biased_of a → q ≡ biased_of b → f ≡ is_operand p → s ≡ is_operand q → g ≡ f && s → record { good = g; p = p; q = q } ≡ operands_of a b
+-- ---- two operands, if both are
+-- what holds where both are operands, and where one is none
+abbrev Both : Decimal → Decimal → Number × Number → Type 0
+Both a b t = (are_operands a b ≡ true) × (t ≡ (biased_of a, biased_of b))
+
+operands_cases : (a b : Decimal) → MatchOption {T = Number × Number} (operands_of a b) (are_operands a b ≡ false) (Both a b)
 unfolding operands_of
-pair_made a b p q g f s u v h k e = rw (e, h, k, u, v)
+operands_cases a b = cases (are_operands a b) refl
+  where
+    cases : (v : Bool) → are_operands a b ≡ v → MatchOption {T = Number × Number} (cond v (Some (biased_of a, biased_of b)) None) (are_operands a b ≡ false) (Both a b)
+    cases true e = (e, refl)
+    cases false e = e
 
-module _ (a b : Decimal) (t : Pair) (e : t ≡ operands_of a b) where
-  good_is : t.good ≡ are_operands a b
-  unfolding operands_of
-  good_is = ap (λ (t : Pair). t.good) e
+module _ (a b : Decimal) {o : Option (Number × Number)} (e : o ≡ operands_of a b) where
+  operands_both : {p q : Number} → o ≡ Some (p, q) → Both a b (p, q)
+  operands_both {p} {q} f = subst (λ (o : Option (Number × Number)). MatchOption {T = Number × Number} o (are_operands a b ≡ false) (Both a b)) (sym e ∙ f) (operands_cases a b)
 
-  p_is : t.p ≡ biased_of a
-  unfolding operands_of
-  p_is = ap (λ (t : Pair). t.p) e
-
-  q_is : t.q ≡ biased_of b
-  unfolding operands_of
-  q_is = ap (λ (t : Pair). t.q) e
-
-  pub pair_operands : t.good ≡ true → Operand t.p × Operand t.q
-  pair_operands h =
-      let g = sym good_is ∙ h in (
-        subst Operand (sym p_is) (operand_is a (and_left (is_operand (biased_of a)) (is_operand (biased_of b)) g)),
-        subst Operand (sym q_is) (operand_is b (and_right (is_operand (biased_of a)) (is_operand (biased_of b)) g)),
+  -- they are operands
+  pub operands_hold : {p q : Number} → o ≡ Some (p, q) → Operand p × Operand q
+  operands_hold f =
+      let t = operands_both f in
+      let p = ap (λ (t : Number × Number). t.0) t.1 in
+      let q = ap (λ (t : Number × Number). t.1) t.1 in (
+        subst Operand (sym p) (operand_is a (and_left (is_operand (biased_of a)) (is_operand (biased_of b)) t.0)),
+        subst Operand (sym q) (operand_is b (and_right (is_operand (biased_of a)) (is_operand (biased_of b)) t.0)),
       )
 
-  pub pair_result : (op : Number → Number → Number) (r : Decimal) → t.good ≡ true → r ≡ decimal_of (op t.p t.q) → r ≡ cond (are_operands a b) (decimal_of (op (biased_of a) (biased_of b))) zero_of
-  pair_result op r h f = subst (λ (v : Bool). r ≡ cond v (decimal_of (op (biased_of a) (biased_of b))) zero_of) (sym (sym good_is ∙ h)) (f ∙ ap (λ (v : Number). decimal_of (op v t.q)) p_is ∙ ap (λ (v : Number). decimal_of (op (biased_of a) v)) q_is)
+-- the result of an operation, by what is known of each of its calls
+pub operated : (a b : Decimal) (op : Number → Number → Number) {r : Decimal} {Post : Number → Number → Number → Type 0} → ((p q r : Number) → Post p q r → r ≡ op p q) →
+    MatchOption {T = Number × Number} (operands_of a b) (r ≡ zero_of) (λ t. (n : Number) × (Post t.0 t.1 n × (r ≡ decimal_of n))) → r ≡ cond (are_operands a b) (decimal_of (op (biased_of a) (biased_of b))) zero_of
+unfolding operands_of
+operated a b op {r} {Post} f = cases (are_operands a b)
+  where
+    cases : (v : Bool) → MatchOption {T = Number × Number} (cond v (Some (biased_of a, biased_of b)) None) (r ≡ zero_of) (λ t. (n : Number) × (Post t.0 t.1 n × (r ≡ decimal_of n))) → r ≡ cond v (decimal_of (op (biased_of a) (biased_of b))) zero_of
+    cases true h = h.1.1 ∙ ap decimal_of (f _ _ _ h.1.0)
+    cases false h = h
 
-  pub pair_none : (v r : Decimal) → t.good ≡ false → r ≡ zero_of → r ≡ cond (are_operands a b) v zero_of
-  pair_none v r h f = subst (λ (s : Bool). r ≡ cond s v zero_of) (sym (sym good_is ∙ h)) f
-
-  pub pair_worth : t.good ≡ true → Number-atMostOf t.p t.q ≡ at_most_of a b
-  unfolding at_most_of
-  pair_worth h =
-      let g = sym good_is ∙ h in
-      ap (λ (p : Number). Number-atMostOf p t.q) p_is ∙ ap (λ (q : Number). Number-atMostOf (biased_of a) q) q_is ∙
-      sym (ap (λ (x : ℕ). leb (a.m * 10 ^ x) (worth (biased_of b))) (exponent_is a (and_left (is_operand (biased_of a)) (is_operand (biased_of b)) g))) ∙
-      sym (ap (λ (x : ℕ). leb (value_of a) (b.m * 10 ^ x)) (exponent_is b (and_right (is_operand (biased_of a)) (is_operand (biased_of b)) g))) ∙
-      sym (ap (λ (v : Bool). v && leb (value_of a) (value_of b)) g)
-
-  pub pair_worthless : t.good ≡ false → false ≡ at_most_of a b
-  unfolding at_most_of
-  pair_worthless h = rw (sym good_is ∙ h)
+-- ---- compared by worth
+pub compared : (a b : Decimal) {r : Bool} {Post : Number × Number → Type 0} → ((t : Number × Number) → Post t → r ≡ Number-atMostOf t.0 t.1) → MatchOption {T = Number × Number} (operands_of a b) (r ≡ false) Post → r ≡ at_most_of a b
+unfolding operands_of at_most_of
+compared a b {r} {Post} f = cases (are_operands a b) refl
+  where
+    cases : (v : Bool) → are_operands a b ≡ v → MatchOption {T = Number × Number} (cond v (Some (biased_of a, biased_of b)) None) (r ≡ false) Post → r ≡ v && leb (value_of a) (value_of b)
+    cases true g h =
+        f _ h ∙
+        sym (ap (λ (x : ℕ). leb (a.m * 10 ^ x) (worth (biased_of b))) (exponent_is a (and_left (is_operand (biased_of a)) (is_operand (biased_of b)) g))) ∙
+        sym (ap (λ (x : ℕ). leb (value_of a) (b.m * 10 ^ x)) (exponent_is b (and_right (is_operand (biased_of a)) (is_operand (biased_of b)) g)))
+    cases false g h = h

@@ -1,5 +1,5 @@
 -- Decimals (docs/SPECIFICATION.md, "Decimals"): the pair (m, e) is worth m * 10^e. What an operand is, and the operations.
-use Rattle.std.specs.Prelude.{Bool, cond, not, ◌&&◌, ℕ, ◌≤◌, ◌<◌, ◌-◌, pos, eqb, leb}
+use Rattle.std.specs.Prelude.{Option, Some, None, Bool, cond, not, ◌&&◌, ℕ, ◌≤◌, ◌<◌, ◌-◌, pos, eqb, leb}
 use Rattle.std.proofs.Math.IntN.{sub_ℕ}
 use Rattle.rounding.specs.Sizes.{nine_digits, ten_digits, bias}
 use Rattle.rounding.specs.declared.Direction.{Direction}
@@ -8,7 +8,6 @@ use Rattle.rounding.specs.Number.{worth}
 use Rattle.rounding.specs.Operations.{product_of, quotient_of, sum_of}
 use Rattle.rounding.specs.WorkingForm.{nine_of}
 use Rattle.decimal.specs.declared.Decimal.{Decimal}
-use Rattle.decimal.specs.declared.Pair.{Pair}
 use Rattle.decimal.specs.Exponent.{raise, raised}
 
 -- (0, 0)
@@ -42,8 +41,9 @@ is_operand r = cond (eqb r.m 0) (eqb r.x bias) (leb nine_digits r.m && (leb r.m 
 abbrev pub are_operands : Decimal → Decimal → Bool
 are_operands a b = is_operand (biased_of a) && is_operand (biased_of b)
 
-unfoldable pub operands_of : Decimal → Decimal → Pair
-operands_of a b = record { good = are_operands a b; p = biased_of a; q = biased_of b }
+-- both with biased exponents, if both are operands
+unfoldable pub operands_of : Decimal → Decimal → Option (Number × Number)
+operands_of a b = cond (are_operands a b) (Some (biased_of a, biased_of b)) None
 
 -- ---- multiplied, divided, added: the result rounded in the direction, or (0, 0) where an operand is none.
 -- A zero divisor gives zero (`quotient_of`)

@@ -69,7 +69,7 @@ pub fn number_of(d: Decimal) -> Number
     requires { valid_of d ≡ true }
     ensures { Stands input_width result (working_of d) }
 {
-    decimal::biased(d).working()
+    Number::from(d).working()
 }
 
 // The numbers of each group.

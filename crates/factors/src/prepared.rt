@@ -1,6 +1,5 @@
 // What the terms of a scenario have in common: the products that name no decimal of a contaminant, worked out once.
 ghost use Rattle.std.specs.Prelude.{◌≡◌};
-ghost use Rattle.rounding.specs.Direction.{opposite as opposite_of};
 ghost use Rattle.rounding.specs.Operations.{product_of};
 ghost use Rattle.factors.specs.Stands.{ReadyFactors};
 ghost use Rattle.factors.specs.Prepared.{Middle, Product3, PreparedFor};
@@ -41,16 +40,6 @@ pub struct Prepared {
     pub inverse_pef: Number,
 }
 
-// The other direction.
-pub fn opposite(dir: Direction) -> Direction
-    ensures { result ≡ opposite_of dir }
-{
-    match dir {
-        Direction::Down => Direction::Up,
-        Direction::Up => Direction::Down,
-    }
-}
-
 // a * b * c, from the left.
 pub fn product3(a: Number, b: Number, c: Number, dir: Direction) -> Number
     requires { Middle a × (Middle b × Middle c) }
@@ -63,7 +52,7 @@ pub fn prepare(f: Factors, dir: Direction) -> Prepared
     requires { ReadyFactors f }
     ensures { PreparedFor dir f result }
 {
-    let lifetime = product3(f.exposure.bw, f.exposure.at, DAYS, opposite(dir));
+    let lifetime = product3(f.exposure.bw, f.exposure.at, DAYS, dir.opposite());
     let soil_intake = product3(f.contact.ir, MILLIONTH, f.exposure.ef, dir);
     let water_intake = f.contact.ir.mul(f.exposure.ef, dir);
     let vapour_intake = product3(f.contact.ira, HALF, f.exposure.ef, dir);

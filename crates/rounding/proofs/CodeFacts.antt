@@ -2,22 +2,17 @@
 use mathlib.Core.Path.{◌≡◌, refl, sym, ap, ◌∙◌}
 use mathlib.Core.Bool.{Bool, true, false, cond}
 use Prim.Native.Nat.{ℕ, ◌+◌, ◌*◌, ◌^◌, ◌≤◌, ◌<◌}
-use native.Mathlib.Nat.{mul-le-mul, pow-le-pow_right, lt_of_lt_of_le}
+use native.Mathlib.Nat.{pow-le-pow_right, lt_of_lt_of_le}
 use native.Mathlib.Omega.{arith}
 use lib.Dec.{ltb, leb, lit<, lit≤}
 use borrow.Author.Tests.{ltb-true, ltb-false, leb-true, leb-false}
 use Rattle.rounding.specs.declared.Direction.{Direction}
-use Rattle.rounding.specs.declared.Direction.TheVariants.{Down, Up}
 use Rattle.rounding.specs.declared.Number.{Number}
 use Rattle.rounding.specs.Number.{InRange, rank_of, Result, SumResult}
-use Rattle.rounding.specs.Round.{extra_of, divide_of, cut_of, round_of}
+use Rattle.rounding.specs.Round.{divide_of, cut_of, round_of}
 use Rattle.rounding.specs.Operations.{dividend_of, divisor_of, gap_of, aligned_of, sum_of}
-use Rattle.rounding.proofs.WholeQuotients.{divide_most, divide_beside, divide_small}
+use Rattle.rounding.proofs.WholeQuotients.{divide_beside, divide_small}
 use Rattle.rounding.proofs.Greatest.{pow_ten_pos}
-
-pub extra_most : (dir : Direction) (d : ℕ) → extra_of dir d ≤ d
-extra_most Down d = omega arith
-extra_most Up d = omega arith
 
 -- ---- the shorter quotient is picked field by field
 pub cut_is : (dir : Direction) (q x : ℕ) {tenth m y : ℕ} → tenth ≡ divide_of dir q 10 → m ≡ cond (ltb q 1000000000) q tenth → y ≡ cond (ltb q 1000000000) x (x + 1) →
@@ -32,9 +27,6 @@ cut_is dir q x {tenth} {m} {y} e = cases (ltb q 1000000000)
 pub power_most : (k j : ℕ) → k ≤ j → 10 ^ k ≤ 10 ^ j
 power_most k j h = pow-le-pow_right {n = 10} (lit< tt) {i = k} {j = j} h
 
-pub raised_fits : (m k : ℕ) → m < 1000000000 → k ≤ 4 → m * 10 ^ k ≤ 10000000000000
-raised_fits m k h l = mul-le-mul {n₁ = m} {m₁ = 10 ^ k} {n₂ = 1000000000} {m₂ = 10000} (omega arith) (power_most k 4 l)
-
 -- ---- the two sides of a division
 pub record Sizes (n d : ℕ) : Type 0 where
   pub some : 0 < d
@@ -47,9 +39,6 @@ quotient_sizes p q a b = cases (leb 100000000 q.m) refl
     cases : (t : Bool) → leb 100000000 q.m ≡ t → Sizes (cond t (p.m * 1000000000) 0) (cond t q.m 1)
     cases true e = let h = leb-true 100000000 q.m e in record { some = omega arith; most = omega (arith, a.most); fits = omega (arith, a.most, b.most) }
     cases false e = record { some = lit< tt; most = lit≤ tt; fits = lit≤ tt }
-
-pub picked_sizes : (p q : Number) → InRange p → InRange q → {n d : ℕ} → n ≡ dividend_of p q → d ≡ divisor_of q → Sizes n d
-picked_sizes p q a b e f = rw (e, f) (quotient_sizes p q a b)
 
 -- ---- the gap between two exponents, cut at nine places
 abbrev pub places_of : ℕ → ℕ
@@ -74,10 +63,6 @@ unfolding aligned_of round_of
 aligned_is dir p q h =
     ap (λ (v : ℕ). cut_of dir v p.x)
     (ap (λ (v : ℕ). p.m + v) (places_same dir q.m (gap_of p q) h) ∙ sym (divide_beside q.m (10 ^ gap_of p q) (pow_ten_pos (gap_of p q)) dir p.m))
-
--- what the second summand adds to the first
-pub part_most : (dir : Direction) (n k : ℕ) → n < 1000000000 → divide_of dir n (10 ^ k) ≤ 1000000000
-part_most dir n k h = divide_most n (10 ^ k) (pow_ten_pos k) dir 1000000000 (omega (arith, h, pow_ten_pos k))
 
 -- ---- whether the first of two summands comes first in the sum
 abbrev pub comes_first : Number → Number → Bool

@@ -5,8 +5,11 @@ use mathlib.Core.Logic.{◌⊎◌, inl, inr}
 use Prim.Native.Nat.{ℕ, ◌+◌, ◌-◌, ◌*◌, ◌^◌, ◌≤◌, ◌<◌}
 use native.Mathlib.Nat.{mul-le-mul_right, mul-lt-mul_of_pos_right, lt_of_lt_of_le, mul-pos, le_of_lt, le_antisymm, eq_of_mul-eq-mul_right}
 use native.Mathlib.Omega.{arith}
-use lib.Dec.{ltb, leb, lit<}
-use borrow.Author.Tests.{eq-eqb, ne_eqb, le-leb, lt-leb, ltb-true, ltb-false, leb-true, leb-false}
+use lib.Dec.{eqb, ltb, leb, lit<}
+use borrow.Author.Tests.{eqb-true, eqb-false, eq-eqb, ne_eqb, le-leb, lt-leb, ltb-true, ltb-false, leb-true, leb-false}
+use Rattle.std.proofs.Common.{Some}
+use Rattle.std.proofs.lemmas.Bool.Decides.{nat_tests}
+use Rattle.std.specs.Ordering.{nat_cmp, partial_ordering_then, partial_le}
 use Rattle.rounding.specs.declared.Direction.{Direction}
 use Rattle.rounding.specs.declared.Number.{Number}
 use Rattle.rounding.specs.Number.{worth, Nine, Working, InRange, Result, SumResult, rank_of, at_most_of}
@@ -89,6 +92,18 @@ module _ (p q : Number) (f : Working p) (g : Working q) where
       cases (inl y) (inr n) = absurd (omega (arith, zero p y, nine q n, e, l))
       cases (inr n) (inl z) = absurd (omega (arith, nine p n, zero q z, e, k))
       cases (inr n) (inr o) = digits (sym (nine p n) ∙ e ∙ nine q o) (leb p.m q.m) refl
+
+  -- the pairs of rank and digits, compared in that order
+  pub ranks_decide : 0 < p.x → 0 < q.x → cond (eqb (rank_of p) (rank_of q)) (leb p.m q.m) (ltb (rank_of p) (rank_of q)) ≡ at_most_of p q
+  ranks_decide k l = cases (eqb (rank_of p) (rank_of q)) refl
+    where
+      cases : (b : Bool) → eqb (rank_of p) (rank_of q) ≡ b → cond b (leb p.m q.m) (ltb (rank_of p) (rank_of q)) ≡ at_most_of p q
+      cases true e = rank_same k l (eqb-true (rank_of p) (rank_of q) e)
+      cases false e = rank_order (eqb-false (rank_of p) (rank_of q) e)
+
+-- what `<=` answers at two pairs of numbers
+pub pair_order : (k a l b : ℕ) → partial_le {X = ℕ × ℕ} (λ x y. partial_ordering_then (Some (nat_cmp x.0 y.0)) (Some (nat_cmp x.1 y.1))) (k, a) (l, b) ≡ cond (eqb k l) (leb a b) (ltb k l)
+pair_order k a l b = grind (arith, nat_tests)
 
 -- ---- two working decimals of the same worth are the same
 nine_same : (p q : Number) → Nine p → Nine q → worth p ≡ worth q → p ≡ q

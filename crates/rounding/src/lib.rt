@@ -5,6 +5,7 @@
 
 ghost use Rattle.std.specs.Prelude.{◌≡◌, ◌+◌, ◌-◌, ◌*◌, ◌^◌, ◌≤◌, ◌<◌, leb, cond};
 ghost use Rattle.rounding.specs.Sizes.{ten_digits, bias};
+ghost use Rattle.rounding.specs.Direction.{opposite as opposite_of};
 ghost use Rattle.rounding.specs.Round.{extra_of, divide_of, cut_of};
 ghost use Rattle.rounding.specs.Number.{Working, InRange, Result, SumResult, rank_of, at_most_of};
 ghost use Rattle.rounding.specs.Operations.{product_of, quotient_of, aligned_of, sum_of};
@@ -31,6 +32,18 @@ pub enum Direction {
     Up,
 }
 
+impl Direction {
+    // The other direction.
+    pub fn opposite(self) -> Direction
+        ensures { result ≡ opposite_of self }
+    {
+        match self {
+            Direction::Down => Direction::Up,
+            Direction::Up => Direction::Down,
+        }
+    }
+}
+
 // The number m * 10^(x - 3000). Zero is m = 0, with any x.
 #[derive(Clone, Copy)]
 pub struct Number {
@@ -39,7 +52,7 @@ pub struct Number {
 }
 
 // a if the test holds, else b.
-fn pick(test: bool, a: u64, b: u64) -> u64
+fn pick<T: Copy>(test: bool, a: T, b: T) -> T
     ensures { result ≡ cond test a b }
 {
     if test {
@@ -97,46 +110,16 @@ fn cut(q: u64, x: u64, dir: Direction) -> Number
     }
 }
 
-// The exponent as it counts in an order: zero comes before every other number.
-fn rank(r: Number) -> u64
-    ensures { result ≡ rank_of r }
-{
-    let m = r.m;
-    let x = r.x;
-    pick(m == 0, 0, x)
-}
-
-// The number itself if the test holds, else the other one. Its parts are picked one by one, so that no
-// branch depends on the test.
-fn choose(test: bool, p: Number, q: Number) -> Number
-    ensures { result ≡ cond test p q }
-{
-    Number {
-        m: pick(test, p.m, q.m),
-        x: pick(test, p.x, q.x),
-    }
-}
-
 // p + q, where q does not come after p in the order of exponents. A gap of nine places or more
 // leaves of q only that something is there, so it counts as nine.
 fn aligned(p: Number, q: Number, dir: Direction) -> Number
     requires { InRange p × (InRange q × (rank_of q ≤ rank_of p)) }
     ensures { (result ≡ aligned_of dir p q) × Result p.x result }
 {
-    let gap = rank(p) - rank(q);
+    let gap = p.rank() - q.rank();
     let places = pick(gap < 9, gap, 9);
     let part = divide(q.m, power(places), dir);
     cut(p.m + part, p.x, dir)
-}
-
-// The number times 10^k, k from 1 to 4, where that leaves at most nine digits.
-fn raised(r: Number, k: u64) -> Number
-    requires { (r.m < ten_digits) × ((k ≤ 4) × (k ≤ r.x)) }
-    ensures { result ≡ raise_by k r }
-{
-    let m = r.m * power(k);
-    let x = r.x - k;
-    choose(m < TEN_DIGITS, Number { m, x }, r)
 }
 
 impl Number {
@@ -145,6 +128,13 @@ impl Number {
         m: 0,
         x: NINE_PLACES,
     };
+
+    // The exponent as it counts in an order: zero comes before every other number.
+    fn rank(self) -> u64
+        ensures { result ≡ rank_of self }
+    {
+        pick(self.m == 0, 0, self.x)
+    }
 
     // The product, rounded.
     pub fn mul(self, other: Number, dir: Direction) -> Number
@@ -176,10 +166,20 @@ impl Number {
         if other.m == 0 {
             return self;
         }
-        let first = rank(other) <= rank(self);
-        let great = choose(first, self, other);
-        let small = choose(first, other, self);
+        let first = other.rank() <= self.rank();
+        let great = pick(first, self, other);
+        let small = pick(first, other, self);
         aligned(great, small, dir)
+    }
+
+    // The number times 10^k, k from 1 to 4, where that leaves at most nine digits.
+    fn raised(self, k: u64) -> Number
+        requires { (self.m < ten_digits) × ((k ≤ 4) × (k ≤ self.x)) }
+        ensures { result ≡ raise_by k self }
+    {
+        let m = self.m * power(k);
+        let x = self.x - k;
+        pick(m < TEN_DIGITS, Number { m, x }, self)
     }
 
     // The same value with nine digits, of a number of one to nine.
@@ -187,10 +187,7 @@ impl Number {
         requires { (self.m < ten_digits) × (11 ≤ self.x) }
         ensures { (result ≡ nine_of self) × NineResult self result }
     {
-        let a = raised(self, 4);
-        let b = raised(a, 4);
-        let c = raised(b, 2);
-        raised(c, 1)
+        self.raised(4).raised(4).raised(2).raised(1)
     }
 
     // Whether this number is worth at most the other.
@@ -198,11 +195,6 @@ impl Number {
         requires { (Working self × (0 < self.x)) × (Working other × (0 < other.x)) }
         ensures { result ≡ at_most_of self other }
     {
-        let a = rank(self);
-        let b = rank(other);
-        if a == b {
-            return self.m <= other.m;
-        }
-        a < b
+        (self.rank(), self.m) <= (other.rank(), other.m)
     }
 }

@@ -9,7 +9,7 @@ ghost use Rattle.terms.specs.Side.{Ready, Air, no_side, SideFor, TermsFor, WideS
 ghost use Rattle.inputs.specs.Rules.{OneOrTwo};
 
 use factors::numbers::ContaminantNumbers;
-use factors::prepared::{DAYS, HALF, MILLIONTH, ONE, Prepared, opposite, product3};
+use factors::prepared::{DAYS, HALF, MILLIONTH, ONE, Prepared, product3};
 use rounding::{BIAS, Direction, NINE_DIGITS, Number};
 
 // The constants that only a term names: 10^-3 and 0.000114.
@@ -76,7 +76,7 @@ fn soil_chemical_hazard(
     let e = p.factors.exposure;
     let k = p.factors.contact;
     let x = t.toxicity;
-    let back = opposite(dir);
+    let back = dir.opposite();
     let oral = product3(x.rfdo, e.bw, DAYS, back);
     let inhaled = product3(x.rfdi, e.bw, DAYS, back);
     PathwayTerms {
@@ -132,7 +132,7 @@ fn water_chemical_hazard(p: Prepared, t: ContaminantNumbers, dir: Direction) -> 
     let k = p.factors.contact;
     let x = t.toxicity;
     let pc = t.transfer.pc;
-    let back = opposite(dir);
+    let back = dir.opposite();
     let oral = product3(x.rfdo, e.bw, DAYS, back);
     let inhaled = product3(x.rfdi, e.bw, DAYS, back);
     let absorbed = product3(product3(k.sa, pc, k.et, dir), THOUSANDTH, e.ef, dir);

@@ -1,25 +1,17 @@
 -- `decimal::operand`: each test decides the definition's.
-use Rattle.std.proofs.Common.{eq-eqb, ne_eqb, arith}
-use borrow.Author.Tests.{le-leb, lt-leb}
+use Rattle.std.proofs.Common.{arith}
+use Rattle.std.proofs.lemmas.Bool.Decides.{nat_tests}
 use Rattle.decimal.specs.Decimal.{is_operand}
 use Rattle.decimal.proofs.operand.Goals as goal
 
-pub returns-then-m-eq0 : goal.returns-then-m-eq0
+pub returns-then-r-eq0 : goal.returns-then-r-eq0
 unfolding is_operand
-returns-then-m-eq0 c = rw (eq-eqb c.args.r.m 0 c.if-m-eq0.true)
+returns-then-r-eq0 c = grind (arith, nat_tests)
 
-pub returns-then-m-lt-NINE_DIGITS : goal.returns-then-m-lt-NINE_DIGITS
+pub returns-then-contains : goal.returns-then-contains
 unfolding is_operand
-returns-then-m-lt-NINE_DIGITS c = let m = c.args.r.m in rw (ne_eqb m 0 c.if-m-eq0.false, lt-leb 100000000 m c.if-m-lt-NINE_DIGITS.true)
+returns-then-contains c = grind (arith, nat_tests)
 
-pub returns-then-m-ge-TEN_DIGITS : goal.returns-then-m-ge-TEN_DIGITS
+pub returns-else-contains : goal.returns-else-contains
 unfolding is_operand
-returns-then-m-ge-TEN_DIGITS c =
-    let m = c.args.r.m in
-    rw (ne_eqb m 0 c.if-m-eq0.false, le-leb 100000000 m c.if-m-lt-NINE_DIGITS.false, lt-leb m 999999999 (omega (arith, c.if-m-ge-TEN_DIGITS.true)))
-
-pub returns : goal.returns
-unfolding is_operand
-returns c =
-    let m = c.args.r.m in
-    rw (ne_eqb m 0 c.if-m-eq0.false, le-leb 100000000 m c.if-m-lt-NINE_DIGITS.false, le-leb m 999999999 (omega (arith, c.if-m-ge-TEN_DIGITS.false)))
+returns-else-contains c = grind (arith, nat_tests)

@@ -1,11 +1,8 @@
--- `decimal::operands`: a pair is good where both are operands.
-use Rattle.decimal.proofs.OperandFacts.{pair_made}
+-- `decimal::operands`: both are given where both are operands.
+use Rattle.std.proofs.Common.{rules}
+use Rattle.decimal.specs.Decimal.{operands_of}
 use Rattle.decimal.proofs.operands.Goals as goal
 
-pub returns-then-first : goal.returns-then-first
-returns-then-first c =
-    pair_made c.args.a c.args.b _ _ _ c.operand-first.result c.operand-second.result c.biased-p.ensures c.biased-q.ensures c.operand-first.ensures c.operand-second.ensures (rw c.if-first.true)
-
-pub returns-else-first : goal.returns-else-first
-returns-else-first c =
-    pair_made c.args.a c.args.b _ _ _ c.operand-first.result c.operand-second.result c.biased-p.ensures c.biased-q.ensures c.operand-first.ensures c.operand-second.ensures (rw c.if-first.false)
+pub returns : goal.returns
+unfolding operands_of
+returns c = search rules

@@ -1,26 +1,10 @@
 -- `decimal::Decimal::add`: the sum of two operands, else zero.
-use Rattle.std.proofs.Common.{ap, ◌∙◌, arith}
+use Rattle.std.proofs.Common.{rules}
 use Rattle.rounding.specs.Operations.{sum_of}
-use Rattle.decimal.specs.Decimal.{decimal_of, add_of}
-use Rattle.decimal.proofs.OperandFacts.{pair_operands, pair_result, pair_none}
+use Rattle.decimal.specs.Decimal.{add_of}
+use Rattle.decimal.proofs.OperandFacts.{operated}
 use Rattle.decimal.proofs.Decimal.add.Goals as goal
-
-pub add-requires : goal.add-requires
-add-requires c =
-    let o = pair_operands c.args.self c.args.other c.operands-t.result c.operands-t.ensures c.if-t.true in
-    (o.0.range, o.1.range)
-
-pub unbiased-requires : goal.unbiased-requires
-unbiased-requires c =
-    let o = pair_operands c.args.self c.args.other c.operands-t.result c.operands-t.ensures c.if-t.true in
-    let r = c.add.ensures.1 in
-    record { digits = r.most; exponent = omega (arith, r.high, o.0.range.high, o.1.range.high) }
-
-pub returns-then-t : goal.returns-then-t
-unfolding add_of
-returns-then-t c =
-    pair_result c.args.self c.args.other _ c.operands-t.ensures (sum_of c.args.dir) c.unbiased.result c.if-t.true (c.unbiased.ensures ∙ ap decimal_of c.add.ensures.0)
 
 pub returns : goal.returns
 unfolding add_of
-returns c = pair_none c.args.self c.args.other _ c.operands-t.ensures _ c.zero.result c.if-t.false c.zero.ensures
+returns c = operated c.args.self c.args.other (sum_of c.args.dir) (λ p q r h. search rules) c.operate.ensures

@@ -1,6 +1,7 @@
 -- `decimal::Decimal::working`: zero for what has no working form, else the number's working form.
-use Rattle.std.proofs.Common.{sym, ap, ◌∙◌, arith, eq-eqb, ne_eqb}
-use borrow.Author.Tests.{le-leb, lt-leb}
+use Rattle.std.proofs.Common.{ap, ◌∙◌, arith, ne_eqb}
+use borrow.Author.Tests.{le-leb}
+use Rattle.std.proofs.lemmas.Bool.Decides.{nat_tests}
 use Rattle.rounding.specs.declared.Number.{Number}
 use Rattle.rounding.specs.WorkingForm.{nine_of}
 use Rattle.decimal.specs.Exponent.{raised}
@@ -10,23 +11,15 @@ use Rattle.decimal.proofs.Decimal.working.Goals as goal
 pub returns-then-r-ge-TEN_DIGITS : goal.returns-then-r-ge-TEN_DIGITS
 unfolding working_of
 returns-then-r-ge-TEN_DIGITS c =
-    let d = c.args.self in
-    let m = ap (λ (r : Number). r.m) c.biased-r.ensures in
-    rw (lt-leb d.m 999999999 (omega (arith, m, c.if-r-ge-TEN_DIGITS.true))) c.zero.ensures
-
-pub returns-then-r-eq0 : goal.returns-then-r-eq0
-unfolding working_of
-returns-then-r-eq0 c =
-    let d = c.args.self in
-    let m = ap (λ (r : Number). r.m) c.biased-r.ensures in
-    let x = ap (λ (r : Number). r.x) c.biased-r.ensures in
-    rw (le-leb d.m 999999999 (omega (arith, m, c.if-r-ge-TEN_DIGITS.false)), eq-eqb (raised d.e) 0 (sym x ∙ c.if-r-eq0.true)) c.zero-then-r-eq0.ensures
+    let m = ap (λ (r : Number). r.m) c.from-r.ensures in
+    let x = ap (λ (r : Number). r.x) c.from-r.ensures in
+    grind (arith, nat_tests)
 
 pub returns : goal.returns
 unfolding working_of
 returns c =
     let d = c.args.self in
-    let e = c.biased-r.ensures in
+    let e = c.from-r.ensures in
     let m = ap (λ (r : Number). r.m) e in
     let x = ap (λ (r : Number). r.x) e in
     rw (le-leb d.m 999999999 (omega (arith, m, c.if-r-ge-TEN_DIGITS.false)), ne_eqb (raised d.e) 0 (λ h. c.if-r-eq0.false (x ∙ h)))

@@ -9,9 +9,9 @@ use Rattle.factors.proofs.numbers.number_of.Goals as goal
 pub working-requires : goal.working-requires
 working-requires c =
     let k = valid_small c.args.d c.requires in
-    let m = ap (λ (r : Number). r.m) c.biased.ensures in
-    let x = ap (λ (r : Number). r.x) c.biased.ensures in
+    let m = ap (λ (r : Number). r.m) c.from.ensures in
+    let x = ap (λ (r : Number). r.x) c.from.ensures in
     (omega (arith, k.digits, m), omega (arith, k.low, x))
 
 pub returns : goal.returns
-returns c = number_stands c.args.d c.working.result c.requires (c.working.ensures.0 ∙ ap nine_of c.biased.ensures)
+returns c = number_stands c.args.d c.working.result c.requires (c.working.ensures.0 ∙ ap nine_of c.from.ensures)

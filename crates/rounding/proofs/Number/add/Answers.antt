@@ -14,6 +14,6 @@ pub returns : goal.returns
 returns c =
     let p = c.args.self in
     let q = c.args.other in
-    let great = picked_first p q p q c.rank.ensures c.rank-2.ensures c.choose-great.ensures in
-    let small = picked_first p q q p c.rank.ensures c.rank-2.ensures c.choose-small.ensures in
+    let great = picked_first p q p q c.rank.ensures c.rank-2.ensures c.pick-great.ensures in
+    let small = picked_first p q q p c.rank.ensures c.rank-2.ensures c.pick-small.ensures in
     ordered_sum p q c.requires.0 c.requires.1 c.args.dir great small c.aligned.ensures

@@ -1,15 +1,11 @@
--- `rounding::Number::at_most`: at one exponent the digits are compared, else the exponents.
-use Rattle.std.proofs.Common.{sym, ◌∙◌}
-use Rattle.rounding.proofs.Exponents.{rank_order, rank_same}
+-- `rounding::Number::at_most`: the exponents are compared, and at one exponent the digits.
+use Rattle.std.proofs.Common.{◌∙◌}
+use Rattle.rounding.specs.Number.{rank_of}
+use Rattle.rounding.proofs.Exponents.{pair_order, ranks_decide}
 use Rattle.rounding.proofs.Number.at_most.Goals as goal
-
-pub returns-then-a-b : goal.returns-then-a-b
-returns-then-a-b c =
-    rank_same c.args.self c.args.other c.requires.0.0 c.requires.1.0 c.requires.0.1 c.requires.1.1
-    (sym c.rank-a.ensures ∙ c.if-a-b.true ∙ c.rank-b.ensures)
 
 pub returns : goal.returns
 returns c =
-    let k = c.rank-a.ensures in
-    let l = c.rank-b.ensures in
-    rw (k, l) (rank_order c.args.self c.args.other c.requires.0.0 c.requires.1.0 (λ e. c.if-a-b.false (k ∙ e ∙ sym l)))
+    let p = c.args.self in
+    let q = c.args.other in
+    rw (c.rank.ensures, c.rank-2.ensures) at c.le.ensures ∙ pair_order (rank_of p) p.m (rank_of q) q.m ∙ ranks_decide p q c.requires.0.0 c.requires.1.0 c.requires.0.1 c.requires.1.1

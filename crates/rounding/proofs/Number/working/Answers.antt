@@ -7,5 +7,5 @@ use Rattle.rounding.proofs.Number.working.Goals as goal
 pub returns : goal.returns
 unfolding nine_of
 returns c =
-    let e : c.raised.result ≡ nine_of c.args.self = cc in
+    let e : c.raised-4.result ≡ nine_of c.args.self = cc in
     (e, rw e (nine_result c.args.self c.requires.0))
