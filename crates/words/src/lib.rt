@@ -41,12 +41,12 @@ pub fn all_zero(s: &[u8], at: usize, n: usize) -> bool
 }
 
 // Writes the word v at `at`.
-#[tactic(auto, using(crate::proofs::Written::put_mid_placed), unfolding(crate::specs::Bytes::le4))]
+#[tactic(auto, using(crate::proofs::Written::set_four), unfolding(crate::specs::Bytes::le4))]
 pub fn put(out: &mut [u8], at: usize, v: u32)
     requires { at + 4 ≤ length out.old }
     ensures { out.new ≡ placed out.old at (le4 v) }
 {
-    out[at..at + 4].copy_from_slice(&v.to_le_bytes());
+    [out[at], out[at + 1], out[at + 2], out[at + 3]] = v.to_le_bytes();
 }
 
 // Writes n zero bytes from `at` on.
