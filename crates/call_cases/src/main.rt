@@ -31,9 +31,11 @@ fn run_call<R: Read, W: Write>(
 
 // Reads a case and runs it. False when the input has no whole case left.
 fn next_case<R: Read, W: Write>(input: &mut R, output: &mut W) -> io::Result<bool> {
-    let (Some(call), Some(argument), Some(count)) =
-        (next_word(input)?, next_word(input)?, next_word(input)?)
-    else {
+    let (Some(call), Some(argument), Some(count)) = (
+        next_word(input)?,
+        next_word(input)?,
+        next_word(input)?,
+    ) else {
         return Ok(false);
     };
     run_call(input, output, call, argument, count)?;
