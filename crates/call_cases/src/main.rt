@@ -4,7 +4,7 @@
 // too. Each case prints a line: the number of its call, and what came back. The crates value_calls and writer_calls run the calls.
 #![tactic(auto)]
 
-use case_input::read_full;
+use input_bytes::{next_word, run_cases};
 use std::io::{self, Read, Write};
 use value_calls::{run_built_in, run_decimals, run_guideline, run_list};
 use writer_calls::run_writer;
@@ -31,25 +31,19 @@ fn run_call<R: Read, W: Write>(
 
 // Reads a case and runs it. False when the input has no whole case left.
 fn next_case<R: Read, W: Write>(input: &mut R, output: &mut W) -> io::Result<bool> {
-    let mut head = [0u8; 12];
-    if read_full(input, &mut head)? < 12 {
+    let (Some(call), Some(argument), Some(count)) = (
+        next_word(input)?,
+        next_word(input)?,
+        next_word(input)?,
+    ) else {
         return Ok(false);
-    }
-    let call = words::word(&head, 0);
-    let argument = words::word(&head, 4);
-    let count = words::word(&head, 8);
+    };
     run_call(input, output, call, argument, count)?;
     Ok(true)
 }
 
-// A proved loop has to end, and nothing says that the input does: so the turns are counted.
 fn main(rt: HostRuntime) -> io::Result<()> {
     let mut input = rt.stdin();
     let mut output = rt.stdout();
-    for _ in 0..u64::MAX {
-        if !next_case(&mut input, &mut output)? {
-            break;
-        }
-    }
-    Ok(())
+    run_cases(|| next_case(&mut input, &mut output))
 }

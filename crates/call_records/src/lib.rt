@@ -6,46 +6,52 @@ ghost use Rattle.std.specs.Prelude.{◌≡◌, ◌≤◌, take};
 ghost use Rattle.sum_rules.specs.ListCall.{sums_of};
 
 use block_rules::Header;
-use case_input::read_full;
+use input_bytes::read_full;
 use inputs::{Contaminant, Scenario};
 use std::io::{self, Read};
 use sum_rules::SumsAnswer;
 
-// The header in the next block, unchecked. What the input does not give of the block is of zeros.
+// The first 128 bytes of the next block. What the input does not give of them is of zeros.
+fn read_block<R: Read>(input: &mut R) -> io::Result<[u8; 128]> {
+    let mut block = [0u8; 128];
+    read_full(input, &mut block)?;
+    Ok(block)
+}
+
+// The header in the next block, unchecked.
 pub fn read_header<R: Read>(input: &mut R) -> io::Result<Header> {
-    let mut block = [0u8; 128];
-    read_full(input, &mut block)?;
-    Ok(blocks::get_header(&block, 8))
+    Ok(blocks::get_header(&read_block(input)?, 8))
 }
 
-// The contaminant in the next block, unchecked. What the input does not give of the block is of zeros.
+// The contaminant in the next block, unchecked.
 pub fn read_contaminant<R: Read>(input: &mut R) -> io::Result<Contaminant> {
-    let mut block = [0u8; 128];
-    read_full(input, &mut block)?;
-    Ok(blocks::get_contaminant(&block, 8))
+    Ok(blocks::get_contaminant(&read_block(input)?, 8))
 }
 
-// The records of a list.
+// The first `count` contaminants of a list; those after them are of zeros.
 #[derive(Clone, Copy)]
 pub struct Records {
-    pub list: [Contaminant; 121],
+    list: [Contaminant; 121],
+    count: usize,
+    ghost within: { count ≤ 121 },
 }
 
-// The contaminants in the next n blocks; those after them are of zeros.
+// The contaminants in the next n blocks.
 pub fn read_records<R: Read>(input: &mut R, n: usize) -> io::Result<Records>
     requires { n ≤ 121 }
 {
     let mut list = [Contaminant::NONE; 121];
-    for i in 0..n {
-        list[i] = read_contaminant(input)?;
+    for r in &mut list[..n] {
+        *r = read_contaminant(input)?;
     }
-    Ok(Records { list })
+    Ok(Records { list, count: n })
 }
 
-// Lends the first n of the records to the list call.
-pub fn sums_of_first(s: Scenario, medium: u32, records: [Contaminant; 121], n: usize) -> SumsAnswer
-    requires { n ≤ 121 }
-    ensures { result ≡ sums_of s medium (take n records) }
-{
-    list_sums::sums_of_list(s, medium, &records[..n])
+impl Records {
+    // Lends them to the list call.
+    pub fn sums(&self, s: Scenario, medium: u32) -> SumsAnswer
+        ensures { result ≡ sums_of s medium (take self.now.count self.now.list) }
+    {
+        list_sums::sums_of_list(s, medium, &self.list[..self.count])
+    }
 }

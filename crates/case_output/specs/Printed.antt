@@ -1,5 +1,6 @@
 -- The text of a number and of decimals, a space before each, and the weight of an output.
 use Rattle.std.specs.Prelude.{ℕ, ◌+◌, ◌*◌, ◌%◌, ◌^◌, List, [], ◌∷◌, ◌++◌}
+use Rattle.std.specs.List.{flat_map}
 use Rattle.std.specs.Fmt.{decimal, signed_decimal}
 use Rattle.decimal.specs.declared.Decimal.{Decimal}
 
@@ -11,8 +12,12 @@ next_text n = 32 ∷ decimal n
 unfoldable pub pair_text : Decimal → List ℕ
 pair_text d = next_text d.m ++ 32 ∷ signed_decimal d.e
 
-unfoldable pub four_text : Decimal → Decimal → Decimal → Decimal → List ℕ
-four_text a b c d = pair_text a ++ pair_text b ++ pair_text c ++ pair_text d
+-- decimals, one after the other
+abbrev pub all_text : List Decimal → List ℕ
+all_text = flat_map pair_text
+
+abbrev pub four_text : Decimal → Decimal → Decimal → Decimal → List ℕ
+four_text a b c d = all_text (a ∷ b ∷ c ∷ d ∷ [])
 
 -- each byte times its place, where the first one stands at place k
 unfoldable pub weight_from : ℕ → List ℕ → ℕ

@@ -3,8 +3,7 @@
 
 ghost use Rattle.std.specs.Prelude.{◌≡◌, ◌≤◌, length, OnOk};
 ghost use Rattle.std.specs.Io.KnownBytes.{Appends};
-ghost use Rattle.std.specs.Fmt.{signed_decimal};
-ghost use Rattle.case_output.specs.Printed.{next_text, pair_text, four_text, weight};
+ghost use Rattle.case_output.specs.Printed.{next_text, pair_text, all_text, weight};
 
 use decimal::Decimal;
 use std::io::{self, Write};
@@ -17,38 +16,22 @@ pub fn print_next<W: Write>(output: &mut W, n: u32) -> io::Result<()>
     write!(output, " {n}")
 }
 
-// Prints a whole number with its sign.
-fn print_signed<W: Write>(output: &mut W, e: i32) -> io::Result<()>
-    ensures { OnOk result (Appends (W.contents output.old) (W.contents output.new) (signed_decimal e)) }
-{
-    write!(output, "{e}")
-}
-
 // Prints a space, m, a space and e.
-#[tactic(auto, unfolding(crate::specs::Printed::pair_text))]
+#[tactic(auto, unfolding(crate::specs::Printed::pair_text, crate::specs::Printed::next_text))]
 pub fn print_pair<W: Write>(output: &mut W, d: Decimal) -> io::Result<()>
     ensures { OnOk result (Appends (W.contents output.old) (W.contents output.new) (pair_text d)) }
 {
-    print_next(output, d.m)?;
-    output.write_all(b" ")?;
-    print_signed(output, d.e)
+    write!(output, " {} {}", d.m, d.e)
 }
 
-// Prints four decimals.
-#[tactic(auto, unfolding(crate::specs::Printed::four_text))]
-pub fn print_four<W: Write>(
-    output: &mut W,
-    a: Decimal,
-    b: Decimal,
-    c: Decimal,
-    d: Decimal,
-) -> io::Result<()>
-    ensures { OnOk result (Appends (W.contents output.old) (W.contents output.new) (four_text a b c d)) }
+// Prints decimals one after the other.
+pub fn print_all<W: Write>(output: &mut W, ds: &[Decimal]) -> io::Result<()>
+    ensures { OnOk result (Appends (W.contents output.old) (W.contents output.new) (all_text ds.now)) }
 {
-    print_pair(output, a)?;
-    print_pair(output, b)?;
-    print_pair(output, c)?;
-    print_pair(output, d)
+    for d in ds {
+        print_pair(output, *d)?;
+    }
+    Ok(())
 }
 
 // The bytes of an output, each times its place from 1, added modulo 4,294,967,296.

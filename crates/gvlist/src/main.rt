@@ -5,24 +5,17 @@ ghost use Rattle.std.specs.Prelude.{◌≡◌, ◌≤◌, ◌<◌, length, take,
 ghost use Rattle.std.specs.Io.KnownBytes.{Consumes, IsAtEnd, Appends};
 ghost use Rattle.listing_rules.specs.Listing.{listing_of};
 
+use input_bytes::read_full;
 use std::io::{self, Read, Write};
 
-// Reads until the buffer is full or the input ends, and answers how many bytes stand at the start of the buffer. A read
-// that fails is an error and not the end, so that no part of the input is taken for the whole.
-fn read_all<R: Read>(input: &mut R, buf: &mut [u8]) -> io::Result<usize>
-    ensures bound { IfOk result (λ n. n ≤ length buf.new) }
-    ensures bytes { IfOk result (λ n. Consumes (R.remaining input.old) (R.remaining input.new) (take n buf.new)) }
-    ensures end { IfOk result (λ n. n < length buf.new → IsAtEnd (R.remaining input.new)) }
+// The next bytes of the input, as many as the buffer holds, or all that are left.
+fn read_site<'a, R: Read>(input: &mut R, buf: &'a mut [u8]) -> io::Result<&'a [u8]>
+    ensures bound { IfOk result (λ site. length site.now ≤ length buf.old) }
+    ensures bytes { IfOk result (λ site. Consumes (R.remaining input.old) (R.remaining input.new) site.now) }
+    ensures end { IfOk result (λ site. length site.now < length buf.old → IsAtEnd (R.remaining input.new)) }
 {
-    let mut done: usize = 0;
-    while done < buf.len() {
-        let n = input.read(&mut buf[done..])?;
-        if n == 0 {
-            break;
-        }
-        done += n;
-    }
-    Ok(done)
+    let n = read_full(input, buf)?;
+    Ok(&buf[..n])
 }
 
 // Puts the listing of a site, all of it, at the start of a text that has room for every listing.
@@ -60,8 +53,8 @@ fn explained<T>(rt: &impl Eprint, what: &str, answer: io::Result<T>) -> io::Resu
 // The buffer holds more than the longest site, 61,952 bytes: an input that is longer is refused, and not cut.
 fn main(rt: HostRuntime) -> io::Result<()> {
     let mut buf = [0u8; 65536];
-    let read = read_all(&mut rt.stdin(), &mut buf);
-    let n = explained(&rt, "reading standard input", read)?;
-    let written = write_listing(&buf[..n], &mut rt.stdout());
+    let read = read_site(&mut rt.stdin(), &mut buf);
+    let site = explained(&rt, "reading standard input", read)?;
+    let written = write_listing(site, &mut rt.stdout());
     explained(&rt, "writing to standard output", written)
 }

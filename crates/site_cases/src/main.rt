@@ -4,22 +4,18 @@
 // site_calls runs a case.
 #![tactic(auto)]
 
-use case_input::read_full;
+use input_bytes::{next_word, read_full, run_cases};
 use site_calls::run_case;
 use std::io::{self, Read, Write};
 
 // Reads a case and runs it. False when the input has no whole case left.
 fn next_case<R: Read, W: Write>(input: &mut R, output: &mut W) -> io::Result<bool> {
-    let mut head = [0u8; 8];
-    if read_full(input, &mut head)? < 8 {
+    let (Some(n), Some(m)) = (next_word(input)?, next_word(input)?) else {
         return Ok(false);
-    }
-    let n = words::word(&head, 0) as usize;
-    let m = words::word(&head, 4) as usize;
-    if 65536 < n {
-        return Ok(false);
-    }
-    if 65536 < m {
+    };
+    let n = n as usize;
+    let m = m as usize;
+    if 65536 < n || 65536 < m {
         return Ok(false);
     }
     let mut site = [0u8; 65536];
@@ -31,14 +27,8 @@ fn next_case<R: Read, W: Write>(input: &mut R, output: &mut W) -> io::Result<boo
     Ok(true)
 }
 
-// A proved loop has to end, and nothing says that the input does: so the turns are counted.
 fn main(rt: HostRuntime) -> io::Result<()> {
     let mut input = rt.stdin();
     let mut output = rt.stdout();
-    for _ in 0..u64::MAX {
-        if !next_case(&mut input, &mut output)? {
-            break;
-        }
-    }
-    Ok(())
+    run_cases(|| next_case(&mut input, &mut output))
 }

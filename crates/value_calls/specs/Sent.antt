@@ -1,5 +1,5 @@
 -- The texts of what the single guideline, the list call and the built-in scenarios send back, and the operations on decimals.
-use Rattle.std.specs.Prelude.{ℕ, ◌/◌, ◌%◌, ◌==◌, if◌then◌else◌, List, ◌++◌}
+use Rattle.std.specs.Prelude.{ℕ, ◌/◌, ◌%◌, ◌==◌, if◌then◌else◌, List, [], ◌∷◌, ◌++◌}
 use Rattle.rounding.specs.declared.Direction.{Direction}
 use Rattle.rounding.specs.declared.Direction.TheVariants.{Down, Up}
 use Rattle.decimal.specs.declared.Decimal.{Decimal}
@@ -10,7 +10,7 @@ use Rattle.inputs.specs.declared.Scenario.{Scenario}
 use Rattle.guideline_rules.specs.declared.GuidelineAnswer.{GuidelineAnswer}
 use Rattle.sum_rules.specs.declared.SumsAnswer.{SumsAnswer}
 use Rattle.sum_rules.specs.Verdict.{verdict_number}
-use Rattle.case_output.specs.Printed.{next_text, four_text}
+use Rattle.case_output.specs.Printed.{next_text, all_text, four_text}
 
 -- refusal, block, eight decimals
 abbrev pub guidelines_text : GuidelineAnswer → List ℕ
@@ -27,11 +27,12 @@ sums_text a =
     next_text (verdict_number a.risk.verdict) ++ next_text (verdict_number a.hazard.verdict)
 
 -- the twelve factors of a scenario
-unfoldable pub factors_text : Scenario → List ℕ
+abbrev pub factors_text : Scenario → List ℕ
 factors_text s =
-    four_text s.exposure.ef s.exposure.ed s.exposure.bw s.exposure.at ++
-    four_text s.contact.ir s.contact.ira s.contact.pef s.contact.et ++
-    four_text s.contact.rf s.contact.sa s.targets.tr s.targets.thi
+    all_text (
+    s.exposure.ef ∷ s.exposure.ed ∷ s.exposure.bw ∷ s.exposure.at ∷
+    s.contact.ir ∷ s.contact.ira ∷ s.contact.pef ∷ s.contact.et ∷
+    s.contact.rf ∷ s.contact.sa ∷ s.targets.tr ∷ s.targets.thi ∷ [])
 
 -- refusal, block, factors
 abbrev pub built_in_text : BuiltIn → List ℕ

@@ -7,8 +7,8 @@ ghost use Rattle.std.specs.Io.KnownBytes.{Appends};
 ghost use Rattle.inputs.specs.BuiltIn.{built_in_of};
 ghost use Rattle.value_calls.specs.Sent.{guidelines_text, sums_text, factors_text, built_in_text, direction_of, operation_of};
 
-use call_records::{read_contaminant, read_header, read_records, sums_of_first};
-use case_output::{print_four, print_next, print_pair};
+use call_records::{read_contaminant, read_header, read_records};
+use case_output::{print_all, print_next, print_pair};
 use decimal::Decimal;
 use guideline_rules::GuidelineAnswer;
 use inputs::{BuiltIn, Scenario};
@@ -27,13 +27,10 @@ fn print_guidelines<W: Write>(output: &mut W, a: GuidelineAnswer) -> io::Result<
     let hazard = a.hazard;
     print_next(output, outcome::number(a.refusal))?;
     print_next(output, a.block)?;
-    print_four(output, risk.first, risk.second, risk.third, risk.total)?;
-    print_four(
+    print_all(output, &[risk.first, risk.second, risk.third, risk.total])?;
+    print_all(
         output,
-        hazard.first,
-        hazard.second,
-        hazard.third,
-        hazard.total,
+        &[hazard.first, hazard.second, hazard.third, hazard.total],
     )
 }
 
@@ -45,7 +42,10 @@ fn print_sums<W: Write>(output: &mut W, a: SumsAnswer) -> io::Result<()>
     let hazard = a.hazard;
     print_next(output, outcome::number(a.refusal))?;
     print_next(output, a.block)?;
-    print_four(output, risk.lower, risk.upper, hazard.lower, hazard.upper)?;
+    print_all(
+        output,
+        &[risk.lower, risk.upper, hazard.lower, hazard.upper],
+    )?;
     print_next(output, sums::verdict_number(risk.verdict))?;
     print_next(output, sums::verdict_number(hazard.verdict))
 }
@@ -57,9 +57,12 @@ fn print_factors<W: Write>(output: &mut W, s: Scenario) -> io::Result<()>
     let x = s.exposure;
     let c = s.contact;
     let t = s.targets;
-    print_four(output, x.ef, x.ed, x.bw, x.at)?;
-    print_four(output, c.ir, c.ira, c.pef, c.et)?;
-    print_four(output, c.rf, c.sa, t.tr, t.thi)
+    print_all(
+        output,
+        &[
+            x.ef, x.ed, x.bw, x.at, c.ir, c.ira, c.pef, c.et, c.rf, c.sa, t.tr, t.thi,
+        ],
+    )
 }
 
 // Prints a built-in scenario: refusal, block, factors.
@@ -85,8 +88,7 @@ pub fn run_list<R: Read, W: Write>(input: &mut R, output: &mut W, n: usize) -> i
     }
     let h = read_header(input)?;
     let records = read_records(input, n)?;
-    let answer = sums_of_first(h.scenario, h.medium, records.list, n);
-    print_sums(output, answer)
+    print_sums(output, records.sums(h.scenario, h.medium))
 }
 
 // Call 5: the built-in scenario of a number: refusal, block and factors.

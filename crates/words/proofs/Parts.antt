@@ -1,5 +1,5 @@
 -- What stands in a part of a list stands in the whole: bytes, words, zero bytes, a part of a part. Assumes nothing.
-use Rattle.std.proofs.Common.{◌≡◌, ℕ, zero, suc, ◌+◌, ◌<◌, ◌≤◌, Bool, ◌&&◌, eqb, List, [], ◌∷◌, length, get_or, take, drop, sym, refl, ap, ◌∙◌, ap₂, add-zero, add_assoc, arith, length-drop, length-take-le, get_or-drop, get_or-take, take-take, drop-drop}
+use Rattle.std.proofs.Common.{◌≡◌, ℕ, zero, suc, ◌+◌, ◌<◌, ◌≤◌, Bool, ◌&&◌, eqb, List, [], ◌∷◌, length, get_or, take, drop, sym, refl, ap, ◌∙◌, ap₂, add-zero, add-one, add_assoc, arith, length-drop, length-take-le, get_or-drop, get_or-take, take-take, drop-drop}
 use Rattle.words.specs.Words.{word_at, zeros, part_of}
 
 pub get_or_part : (s : List ℕ) (a n k : ℕ) → k < n → get_or (part_of s a n) k 0 ≡ get_or s (a + k) 0
@@ -19,6 +19,11 @@ word_part s a n k h =
 -- the first word of a part
 pub word_first : (s : List ℕ) (a n : ℕ) → 4 ≤ n → word_at (part_of s a n) 0 ≡ word_at s a
 word_first s a n h = word_part s a n 0 h ∙ ap (word_at s) (add-zero a)
+
+-- one byte more of a part that is lent
+pub zeros_next : (s : List ℕ) (a n i : ℕ) → i < n → zeros s a (i + 1) ≡ (zeros s a i && eqb (get_or (part_of s a n) i 0) 0)
+unfolding zeros
+zeros_next s a n i h = ap (zeros s a) (add-one i) ∙ ap (λ (x : ℕ). zeros s a i && eqb x 0) (sym (get_or_part s a n i h))
 
 pub zeros_part : (s : List ℕ) (a n k m : ℕ) → k + m ≤ n → zeros (part_of s a n) k m ≡ zeros s (a + k) m
 unfolding zeros

@@ -1,15 +1,15 @@
--- Sums of words and runs of zero bytes, one more at a time; the words of a front; the four bytes of a word. Assumes nothing.
-use Rattle.std.proofs.Common.{◌≡◌, ℕ, zero, suc, ◌+◌, ◌*◌, ◌/◌, ◌%◌, ◌<◌, ◌≤◌, ◌&&◌, eqb, List, ◌++◌, length, get_or, sym, refl, ap, ◌∙◌, ap₂, mod-eq_of_lt, add-one, arith}
+-- Sums of words, one more at a time; the words of a front; the four bytes of a word. Assumes nothing.
+use Rattle.std.proofs.Common.{◌≡◌, ℕ, zero, suc, ◌+◌, ◌*◌, ◌/◌, ◌%◌, ◌<◌, ◌≤◌, List, ◌++◌, length, get_or, sym, refl, ap, ◌∙◌, ap₂, mod-eq_of_lt, add-one, arith}
 use native.Mathlib.Nat.{mod-add-mod, div-div-eq-div-mul, div-add-mod}
 use lib.ListN.{get_or-append}
-use Rattle.words.specs.Words.{word_at, word_sum, zeros}
+use Rattle.words.specs.Words.{word_at, word_sum}
 use Rattle.words.specs.Bytes.{le4}
 
 pub le4_length : (v : ℕ) → length (le4 v) ≡ 4
 unfolding le4
 le4_length v = refl
 
--- ---- one word more, one byte more
+-- ---- one word more
 pub word_sum_suc : (s : List ℕ) (n : ℕ) → word_sum s (suc n) ≡ word_sum s n + word_at s (4 * n)
 unfolding word_sum
 word_sum_suc s n = refl
@@ -19,10 +19,6 @@ unfolding word_sum
 word_sum_next s t i e =
     ap (λ (k : ℕ). (k + word_at s (4 * i)) % 4294967296) e ∙ mod-add-mod (word_sum s i) 4294967296 (word_at s (4 * i))
     ∙ ap (λ (k : ℕ). word_sum s k % 4294967296) (sym (add-one i))
-
-pub zeros_next : (s : List ℕ) (at i : ℕ) → zeros s at (i + 1) ≡ (zeros s at i && eqb (get_or s (at + i) 0) 0)
-unfolding zeros
-zeros_next s at i = ap (zeros s at) (add-one i)
 
 -- ---- the words of a front are the words of the whole
 pub word_front : (p t : List ℕ) (k : ℕ) → k + 4 ≤ length p → word_at (p ++ t) k ≡ word_at p k

@@ -1,5 +1,6 @@
 -- Bytes written over a list: lengths, one store after another, a part that was lent, and a writer's progress. Assumes nothing.
 use Rattle.std.proofs.Common.{◌≡◌, ℕ, suc, ◌+◌, ◌-◌, ◌<◌, ◌≤◌, List, [], ◌∷◌, ◌++◌, length, get_or, take, drop, set, sym, refl, ap, ◌∙◌, ap₂, append_assoc, append-nil, add-zero, arith, length-append, length-drop, take-append-drop, length-take-le, drop-cons, drop-drop, take_at, drop_at}
+use borrow.Rule.Slice.PartMut.{put_mid}
 use lib.Seq.{append_snoc, drop-append_seam, set_at, sets-eq, drop-length}
 use Rattle.words.specs.Words.{part_of}
 use Rattle.words.specs.Bytes.{placed, over}
@@ -11,6 +12,12 @@ placed_length l w at h = simp (length-append, length-drop) (omega (arith, length
 pub placed_none : (l : List ℕ) (at : ℕ) → at ≤ length l → l ≡ placed l at []
 unfolding placed
 placed_none l at h = sym (take-append-drop at l) ∙ ap (λ (n : ℕ). take at l ++ drop n l) (sym (add-zero at))
+
+-- a part from `at` on that was lent, and that was written from end to end
+pub put_mid_placed : (l y w : List ℕ) (at k : ℕ) → y ≡ w → length w ≡ k → put_mid at k l y ≡ placed l at w
+unfolding placed
+put_mid_placed l y w at k e n =
+    ap₂ (λ (x : List ℕ) (j : ℕ). take at l ++ (x ++ drop j (drop at l))) e (sym n) ∙ ap (λ (t : List ℕ). take at l ++ (w ++ t)) (drop-drop (length w) at l)
 
 -- one byte more
 pub placed_snoc : (l w : List ℕ) (at v : ℕ) → at + length w < length l → set (placed l at w) (at + length w) v ≡ placed l at (w ++ v ∷ [])

@@ -6,65 +6,54 @@ ghost use Rattle.words.specs.Words.{word_at, word_sum, zeros};
 ghost use Rattle.words.specs.Bytes.{le4, placed};
 
 // The word at `at`.
+#[tactic(auto, unfolding(crate::specs::Words::word_at))]
 pub fn word(s: &[u8], at: usize) -> u32
     requires { at + 4 ≤ length s.now }
     ensures { result ≡ word_at s.now at }
 {
-    s[at] as u32
-        + 256 * (s[at + 1] as u32)
-        + 65536 * (s[at + 2] as u32)
-        + 16777216 * (s[at + 3] as u32)
+    u32::from_le_bytes([s[at], s[at + 1], s[at + 2], s[at + 3]])
 }
 
 // The first n words, added modulo 4,294,967,296.
+#[tactic(auto, using(crate::proofs::Words::word_sum_next), unfolding(crate::specs::Words::word_sum))]
 pub fn sum(s: &[u8], n: usize) -> u32
     requires { 4 * n ≤ length s.now }
     ensures { result ≡ word_sum s.now n % 4294967296 }
 {
     let mut t: u32 = 0;
-    let mut i: usize = 0;
-    while i < n {
-        t = std::num::wrapping_add_u32(t, word(s, 4 * i));
-        i += 1;
+    for i in 0..n {
+        t = t.wrapping_add(word(s, 4 * i));
     }
     t
 }
 
-// Whether the n bytes from `at` are all zero.
+// Whether the n bytes from `at` are all zero. The loop has no way out in the middle, so that it is done many bytes at a time.
+#[tactic(auto, using(crate::proofs::Parts::zeros_next), unfolding(crate::specs::Words::zeros))]
 pub fn all_zero(s: &[u8], at: usize, n: usize) -> bool
     requires { at + n ≤ length s.now }
     ensures { result ≡ zeros s.now at n }
 {
     let mut ok = true;
-    let mut i: usize = 0;
-    while i < n {
-        if s[at + i] != 0 {
-            ok = false;
-        }
-        i += 1;
+    for b in &s[at..at + n] {
+        ok &= *b == 0;
     }
     ok
 }
 
 // Writes the word v at `at`.
+#[tactic(auto, using(crate::proofs::Written::set_four), unfolding(crate::specs::Bytes::le4))]
 pub fn put(out: &mut [u8], at: usize, v: u32)
     requires { at + 4 ≤ length out.old }
     ensures { out.new ≡ placed out.old at (le4 v) }
 {
-    out[at] = (v % 256) as u8;
-    out[at + 1] = (v / 256 % 256) as u8;
-    out[at + 2] = (v / 65536 % 256) as u8;
-    out[at + 3] = (v / 16777216 % 256) as u8;
+    [out[at], out[at + 1], out[at + 2], out[at + 3]] = v.to_le_bytes();
 }
 
 // Writes n zero bytes from `at` on.
+#[tactic(auto, using(crate::proofs::Written::put_mid_placed))]
 pub fn clear(out: &mut [u8], at: usize, n: usize)
     requires { at + n ≤ length out.old }
     ensures { out.new ≡ placed out.old at (replicate n 0) }
 {
-    let mut i: usize = 0;
-    while i < n {
-        out[at + i] = 0;
-        i += 1;
-    }
+    out[at..at + n].fill(0);
 }
