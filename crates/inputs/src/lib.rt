@@ -257,7 +257,14 @@ impl<T: Copy> From<[T; 6]> for Contact<T> {
 
     fn from(values: [T; 6]) -> Contact<T> {
         let [ir, ira, pef, et, rf, sa] = values;
-        Contact { ir, ira, pef, et, rf, sa }
+        Contact {
+            ir,
+            ira,
+            pef,
+            et,
+            rf,
+            sa,
+        }
     }
 }
 
@@ -291,7 +298,13 @@ impl<T: Copy> From<[T; 5]> for Toxicity<T> {
 
     fn from(values: [T; 5]) -> Toxicity<T> {
         let [sfo, sfi, sfx, rfdo, rfdi] = values;
-        Toxicity { sfo, sfi, sfx, rfdo, rfdi }
+        Toxicity {
+            sfo,
+            sfi,
+            sfx,
+            rfdo,
+            rfdi,
+        }
     }
 }
 

@@ -1,5 +1,5 @@
 -- `fields::put_all`: one more field behind those that were written.
-use Rattle.std.proofs.Common.{◌+◌, arith}
+use Rattle.std.proofs.Common.{arith}
 use Rattle.words.proofs.Written.{placed_none}
 use Rattle.fields.specs.Fields.{field_bytes}
 use Rattle.fields.proofs.ReadBack.{placed_more}

@@ -1,5 +1,5 @@
 -- `fields::read_all`: one more decimal behind those that were read.
-use Rattle.std.proofs.Common.{◌≡◌, List, [], ◌∷◌, ◌++◌, ℕ, ◌+◌, ◌*◌, length, length-set, ap, ap₂, sym, ◌∙◌, refl, arith}
+use Rattle.std.proofs.Common.{List, [], ◌∷◌, ◌++◌, length-set, ap₂, sym, ◌∙◌, refl, arith}
 use Rattle.std.proofs.lemmas.List.{length-replicate, take_more_set}
 use Rattle.decimal.specs.declared.Decimal.{Decimal}
 use Rattle.fields.specs.Fields.{decimals_at}
@@ -12,8 +12,9 @@ loop-i-init g c = (simp length-replicate, refl)
 
 pub loop-i-preserved : goal.loop-i-preserved
 loop-i-preserved g c =
-    let l = c.loop-i in
-    (omega (arith, l.invariant.0, length-set l.ds l.i c.read.result),
-    take_more_set l.ds l.i c.read.result (omega (arith, l.invariant.0))
-    ∙ ap₂ (λ (ds : List Decimal) (d : Decimal). ds ++ d ∷ []) l.invariant.1 c.read.ensures
-    ∙ sym (decimals_more c.args.s.now c.args.at l.i))
+    let l = c.loop-i in (
+      omega (arith, l.invariant.0, length-set l.ds l.i c.read.result),
+      take_more_set l.ds l.i c.read.result (omega (arith, l.invariant.0))
+          ∙ ap₂ (λ (ds : List Decimal) (d : Decimal). ds ++ d ∷ []) l.invariant.1 c.read.ensures
+          ∙ sym (decimals_more c.args.s.now c.args.at l.i),
+    )

@@ -1,7 +1,7 @@
 -- `fields::unused_zero`: one more field is looked at.
-use Rattle.std.proofs.Common.{◌≡◌, ℕ, ◌+◌, ◌*◌, ◌-◌, Bool, ◌&&◌, eqb, sym, ap, ◌∙◌, arith}
+use Rattle.std.proofs.Common.{◌≡◌, ℕ, ◌+◌, ◌*◌, ◌-◌, ◌&&◌, eqb, sym, ap, ◌∙◌, arith}
 use mathlib.Core.Bool.{and-true}
-use Rattle.fields.specs.Fields.{half_at, unused_zero}
+use Rattle.fields.specs.Fields.{unused_zero}
 use Rattle.fields.proofs.Fields.{unused_step}
 use Rattle.fields.proofs.unused_zero.Goals as goal
 
