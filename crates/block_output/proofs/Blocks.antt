@@ -19,8 +19,8 @@ last_word_over p d h = ap (λ (n : ℕ). (4294967296 - n % 4294967296) % 4294967
 
 -- ---- the steps
 -- the decimals of a group, which went through an array
-pub wrote_group : {l l' : List ℕ} {at : ℕ} {x y : List Decimal} → l' ≡ placed l at (field_bytes y) → y ≡ x → l' ≡ placed l at (field_bytes x)
-wrote_group {l} {at = at} e g = e ∙ ap (λ (x : List Decimal). placed l at (field_bytes x)) g
+pub wrote_group : (l : List ℕ) (at : ℕ) {l' : List ℕ} {x y : List Decimal} → l' ≡ placed l at (field_bytes y) → y ≡ x → l' ≡ placed l at (field_bytes x)
+wrote_group l at e g = e ∙ ap (λ (x : List Decimal). placed l at (field_bytes x)) g
 
 pub wrote_fields : {l d : List ℕ} {at : ℕ} (p : List ℕ) (x y : List Decimal) (k : ℕ) (l' : List ℕ)
     → Wrote l (p ++ field_bytes x) d at → l' ≡ placed l at (field_bytes y) → 8 * length y ≡ k

@@ -22,8 +22,8 @@ returns c =
     let y = transfer_decimals r.transfer in
     let gap = unused_of contaminant_pieces in
     let w₁ = wrote_next c.put_first_words.new.out first 16 (wrote_none c.args.out.now) c.put_first_words.ensures (first_words_length 2 p r.class r.id) in
-    let w₂ = wrote_next c.put_all.new.out (field_bytes x) _ w₁ (wrote_group c.put_all.ensures c.into.ensures) (field_bytes_length x) in
-    let w₃ = wrote_fields first x y _ c.put_all-2.new.out w₂ (wrote_group c.put_all-2.ensures c.into-2.ensures) refl in
+    let w₂ = wrote_next c.put_all.new.out (field_bytes x) _ w₁ (wrote_group _ _ c.put_all.ensures c.into.ensures) (field_bytes_length x) in
+    let w₃ = wrote_fields first x y _ c.put_all-2.new.out w₂ (wrote_group _ _ c.put_all-2.ensures c.into-2.ensures) refl in
     let last = c.put.ensures ∙ ap (placed c.put_all-2.new.out 72) (one_field r.c) in
     let w₄ = wrote_fields first (x ++ y) (r.c ∷ []) _ c.put.new.out w₃ last refl in
     let w₅ = wrote_next c.clear.new.out gap _ w₄ c.clear.ensures (length-replicate {A = ℕ} (unused_bytes contaminant_pieces) 0) in

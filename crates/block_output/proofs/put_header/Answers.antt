@@ -22,8 +22,8 @@ returns c =
     let z = target_decimals s.targets in
     let gap = unused_of header_pieces in
     let w₁ = wrote_next c.put_first_words.new.out first 16 (wrote_none c.args.out.now) c.put_first_words.ensures (first_words_length 1 0 h.medium h.count) in
-    let w₂ = wrote_next c.put_all.new.out (field_bytes x) _ w₁ (wrote_group c.put_all.ensures c.into.ensures) (field_bytes_length x) in
-    let w₃ = wrote_fields first x y _ c.put_all-2.new.out w₂ (wrote_group c.put_all-2.ensures c.into-2.ensures) refl in
-    let w₄ = wrote_fields first (x ++ y) z _ c.put_all-3.new.out w₃ (wrote_group c.put_all-3.ensures c.into-3.ensures) refl in
+    let w₂ = wrote_next c.put_all.new.out (field_bytes x) _ w₁ (wrote_group _ _ c.put_all.ensures c.into.ensures) (field_bytes_length x) in
+    let w₃ = wrote_fields first x y _ c.put_all-2.new.out w₂ (wrote_group _ _ c.put_all-2.ensures c.into-2.ensures) refl in
+    let w₄ = wrote_fields first (x ++ y) z _ c.put_all-3.new.out w₃ (wrote_group _ _ c.put_all-3.ensures c.into-3.ensures) refl in
     let w₅ = wrote_next c.clear.new.out gap _ w₄ c.clear.ensures (length-replicate {A = ℕ} (unused_bytes header_pieces) 0) in
     wrote_block 1 0 h.medium h.count (scenario_decimals s) gap c.put_last_word.new.out w₅ c.put_last_word.ensures
