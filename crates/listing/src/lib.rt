@@ -25,7 +25,7 @@ pub fn get_side(block: &[u8], at: usize) -> SideGuidelines
     requires { (at ≤ 100) × (at + 32 ≤ length block.now) }
     ensures { result ≡ side_read block.now at }
 {
-    let [first, second, third, total] = fields::read_all(block, at);
+    let [first, second, third, total] = fields::read_all::<4>(block, at);
     SideGuidelines {
         first,
         second,
