@@ -18,6 +18,10 @@ unfolding last_word over
 last_word_over p d h = ap (λ (n : ℕ). (4294967296 - n % 4294967296) % 4294967296) (word_sum_front p (drop (length p) d) 127 (omega arith))
 
 -- ---- the steps
+-- the decimals of a group, which went through an array
+pub wrote_group : (l : List ℕ) (at : ℕ) {l' : List ℕ} {x y : List Decimal} → l' ≡ placed l at (field_bytes y) → y ≡ x → l' ≡ placed l at (field_bytes x)
+wrote_group l at e g = e ∙ ap (λ (x : List Decimal). placed l at (field_bytes x)) g
+
 pub wrote_fields : {l d : List ℕ} {at : ℕ} (p : List ℕ) (x y : List Decimal) (k : ℕ) (l' : List ℕ)
     → Wrote l (p ++ field_bytes x) d at → l' ≡ placed l at (field_bytes y) → 8 * length y ≡ k
     → Wrote l' (p ++ field_bytes (x ++ y)) d (at + k)

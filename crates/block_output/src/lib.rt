@@ -38,9 +38,9 @@ pub fn put_header(out: &mut [u8], h: Header)
 {
     let s = h.scenario;
     put_first_words(out, 1, 0, h.medium, h.count);
-    groups::put_exposure(out, 16, s.exposure);
-    groups::put_contact(out, 48, s.contact);
-    groups::put_targets(out, 96, s.targets);
+    fields::put_all(out, 16, s.exposure.into());
+    fields::put_all(out, 48, s.contact.into());
+    fields::put_all(out, 96, s.targets.into());
     words::clear(out, 112, 396);
     put_last_word(out);
 }
@@ -51,8 +51,8 @@ pub fn put_contaminant(out: &mut [u8], place: u32, r: Contaminant)
     ensures { out.new ≡ over (contaminant_block place r) out.old }
 {
     put_first_words(out, 2, place, r.class, r.id);
-    groups::put_toxicity(out, 16, r.toxicity);
-    groups::put_transfer(out, 56, r.transfer);
+    fields::put_all(out, 16, r.toxicity.into());
+    fields::put_all(out, 56, r.transfer.into());
     fields::put(out, 72, r.c);
     words::clear(out, 80, 428);
     put_last_word(out);
@@ -71,14 +71,11 @@ pub fn put_result(
     ensures { out.new ≡ over (result_block place class id risk hazard) out.old }
 {
     put_first_words(out, 3, place, class, id);
-    fields::put_four(out, 16, risk.first, risk.second, risk.third, risk.total);
-    fields::put_four(
+    fields::put_all(out, 16, [risk.first, risk.second, risk.third, risk.total]);
+    fields::put_all(
         out,
         48,
-        hazard.first,
-        hazard.second,
-        hazard.third,
-        hazard.total,
+        [hazard.first, hazard.second, hazard.third, hazard.total],
     );
     words::clear(out, 80, 428);
     put_last_word(out);
@@ -92,7 +89,11 @@ pub fn put_summary(out: &mut [u8], risk: SideSums, hazard: SideSums)
     let r = risk.verdict;
     let h = hazard.verdict;
     put_first_words(out, 4, 0, 0, 0);
-    fields::put_four(out, 16, risk.lower, risk.upper, hazard.lower, hazard.upper);
+    fields::put_all(
+        out,
+        16,
+        [risk.lower, risk.upper, hazard.lower, hazard.upper],
+    );
     words::put(out, 48, sums::verdict_number(r));
     words::put(out, 52, sums::verdict_number(h));
     words::clear(out, 56, 452);

@@ -54,9 +54,9 @@ fn get_scenario(part: &[u8], at: usize) -> Scenario
     ensures { result ≡ scenario_at part.now at }
 {
     Scenario {
-        exposure: groups::get_exposure(part, at),
-        contact: groups::get_contact(part, at + 32),
-        targets: groups::get_targets(part, at + 80),
+        exposure: fields::read_all(part, at).into(),
+        contact: fields::read_all(part, at + 32).into(),
+        targets: fields::read_all(part, at + 80).into(),
     }
 }
 
@@ -91,8 +91,8 @@ pub fn get_contaminant(part: &[u8], at: usize) -> Contaminant
     Contaminant {
         class: words::word(part, at),
         id: words::word(part, at + 4),
-        toxicity: groups::get_toxicity(part, at + 8),
-        transfer: groups::get_transfer(part, at + 48),
+        toxicity: fields::read_all(part, at + 8).into(),
+        transfer: fields::read_all(part, at + 48).into(),
         c: fields::read(part, at + 64),
     }
 }

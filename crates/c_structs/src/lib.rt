@@ -48,8 +48,8 @@ pub fn put_guidelines(out: &mut [u8], r: SideGuidelines, h: SideGuidelines)
     requires { 64 ≤ length out.old }
     ensures { out.new ≡ over (field_bytes (guideline_decimals r h)) out.old }
 {
-    fields::put_four(out, 0, r.first, r.second, r.third, r.total);
-    fields::put_four(out, 32, h.first, h.second, h.third, h.total);
+    fields::put_all(out, 0, [r.first, r.second, r.third, r.total]);
+    fields::put_all(out, 32, [h.first, h.second, h.third, h.total]);
 }
 
 // The word of four numbers: a byte each where they are below 256.

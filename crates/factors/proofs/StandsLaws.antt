@@ -1,12 +1,13 @@
 -- Numbers that stand for decimals: multiplied, divided and added they stand for the rounded results. Assumes nothing.
-use mathlib.Core.Path.{◌≡◌, refl, sym, ap, ap₂, subst, ◌∙◌}
+use mathlib.Core.Path.{◌≡◌, refl, sym, ap, ap₂, subst, subst₂, ◌∙◌}
 use mathlib.Core.Bool.{true}
-use mathlib.Core.List.{List, ◌∷◌, ◌++◌, map}
+use mathlib.Core.List.{List, [], ◌∷◌, ◌++◌, map}
 use mathlib.Core.Logic.{inl, inr}
-use Prim.Native.Nat.{ℕ, zero, suc, ◌+◌, ◌-◌, ◌≤◌}
+use Prim.Native.Nat.{ℕ, zero, suc, ◌+◌, ◌-◌, ◌≤◌, ◌<◌}
 use native.Mathlib.Omega.{arith}
 use lib.Dec.{lit<, lit≤}
-use lib.ListN.{get_or}
+use Rattle.std.proofs.lemmas.List.{take_more, take_more_set, map-append}
+use lib.ListN.{get_or, set, take, length}
 use Rattle.rounding.specs.Sizes.{bias}
 use Rattle.rounding.specs.declared.Direction.{Direction}
 use Rattle.rounding.specs.declared.Number.{Number}
@@ -142,6 +143,16 @@ stands_at (next s ss) (suc k) = stands_at ss k
 pub stands_join : {ns ms : List Number} {ds es : List Decimal} → StandAll ns ds → StandAll ms es → StandAll (ns ++ ms) (ds ++ es)
 stands_join end t = t
 stands_join (next s ss) t = next s (stands_join ss t)
+
+-- one more number, set behind the first i
+pub stands_more : (ns : List Number) (ds : List Decimal) (i : ℕ) (r : Number) → i < length ns → i < length ds → StandAll (take i ns) (map working_of (take i ds))
+    → Stands input_width r (working_of (get_or ds i zero_of)) → StandAll (take (i + 1) (set ns i r)) (map working_of (take (i + 1) ds))
+stands_more ns ds i r h k s t =
+    rw (take_more_set ns i r h, take_more ds i zero_of k, map-append working_of (take i ds) (get_or ds i zero_of ∷ [])) (stands_join s (next t end))
+
+-- the numbers m of the decimals d, where both went through arrays
+pub stands_same : {ms ns : List Number} {es ds : List Decimal} → es ≡ ds → StandAll ns (map working_of es) → ms ≡ ns → StandAll ms (map working_of ds)
+stands_same d s m = subst₂ (λ (ns : List Number) (ds : List Decimal). StandAll ns (map working_of ds)) (sym m) d s
 
 pub all_own : {ns : List Number} {ds : List Decimal} → StandAll ns ds → Inputs ns
 all_own end = end

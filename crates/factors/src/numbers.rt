@@ -1,67 +1,28 @@
 // The inputs as numbers of nine digits with biased exponents, on which the terms are worked out: in the groups of `inputs`.
-ghost use Rattle.std.specs.Prelude.{◌≡◌, true};
+ghost use Rattle.std.specs.Prelude.{◌≡◌, true, map};
 ghost use Rattle.inputs.specs.Limits.{input_width};
 ghost use Rattle.decimal.specs.Decimal.{working_of};
-ghost use Rattle.inputs.specs.Inputs.{exposure_decimals, contact_decimals, target_decimals, toxicity_decimals, transfer_decimals, scenario_decimals, formula_decimals};
+ghost use Rattle.inputs.specs.Inputs.{scenario_decimals, formula_decimals};
 ghost use Rattle.inputs.specs.Valid.{valid_of, all_valid};
-ghost use Rattle.factors.specs.Stands.{Stands, ExposureFor, ContactFor, TargetsFor, FactorsFor, ToxicityFor, TransferFor, NumbersFor};
+ghost use Rattle.factors.specs.Stands.{Stands, StandAll, FactorsFor, NumbersFor};
 
 use decimal::Decimal;
 use inputs::{Contact, Contaminant, Exposure, Scenario, Targets, Toxicity, Transfer};
 use rounding::Number;
 
-#[derive(Clone, Copy)]
-pub struct ExposureNumbers {
-    pub ef: Number,
-    pub ed: Number,
-    pub bw: Number,
-    pub at: Number,
-}
-
-#[derive(Clone, Copy)]
-pub struct ContactNumbers {
-    pub ir: Number,
-    pub ira: Number,
-    pub pef: Number,
-    pub et: Number,
-    pub rf: Number,
-    pub sa: Number,
-}
-
-#[derive(Clone, Copy)]
-pub struct TargetNumbers {
-    pub tr: Number,
-    pub thi: Number,
-}
-
 // The factors of a scenario.
 #[derive(Clone, Copy)]
 pub struct Factors {
-    pub exposure: ExposureNumbers,
-    pub contact: ContactNumbers,
-    pub targets: TargetNumbers,
-}
-
-#[derive(Clone, Copy)]
-pub struct ToxicityNumbers {
-    pub sfo: Number,
-    pub sfi: Number,
-    pub sfx: Number,
-    pub rfdo: Number,
-    pub rfdi: Number,
-}
-
-#[derive(Clone, Copy)]
-pub struct TransferNumbers {
-    pub vf: Number,
-    pub pc: Number,
+    pub exposure: Exposure<Number>,
+    pub contact: Contact<Number>,
+    pub targets: Targets<Number>,
 }
 
 // The decimals of a contaminant that a formula names: all but its concentration.
 #[derive(Clone, Copy)]
 pub struct ContaminantNumbers {
-    pub toxicity: ToxicityNumbers,
-    pub transfer: TransferNumbers,
+    pub toxicity: Toxicity<Number>,
+    pub transfer: Transfer<Number>,
 }
 
 // The number of a decimal that keeps its rule.
@@ -72,64 +33,16 @@ pub fn number_of(d: Decimal) -> Number
     Number::from(d).working()
 }
 
-// The numbers of each group.
-fn exposure_numbers(x: Exposure) -> ExposureNumbers
-    requires { all_valid (exposure_decimals x) ≡ true }
-    ensures { ExposureFor x result }
+// The number of each decimal.
+fn numbers_of<const N: usize>(ds: [Decimal; N]) -> [Number; N]
+    requires { all_valid ds ≡ true }
+    ensures { StandAll result (map working_of ds.entry) }
 {
-    ExposureNumbers {
-        ef: number_of(x.ef),
-        ed: number_of(x.ed),
-        bw: number_of(x.bw),
-        at: number_of(x.at),
+    let mut numbers = [Number::ZERO; N];
+    for i in 0..N {
+        numbers[i] = number_of(ds[i]);
     }
-}
-
-fn contact_numbers(x: Contact) -> ContactNumbers
-    requires { all_valid (contact_decimals x) ≡ true }
-    ensures { ContactFor x result }
-{
-    ContactNumbers {
-        ir: number_of(x.ir),
-        ira: number_of(x.ira),
-        pef: number_of(x.pef),
-        et: number_of(x.et),
-        rf: number_of(x.rf),
-        sa: number_of(x.sa),
-    }
-}
-
-fn target_numbers(x: Targets) -> TargetNumbers
-    requires { all_valid (target_decimals x) ≡ true }
-    ensures { TargetsFor x result }
-{
-    TargetNumbers {
-        tr: number_of(x.tr),
-        thi: number_of(x.thi),
-    }
-}
-
-fn toxicity_numbers(x: Toxicity) -> ToxicityNumbers
-    requires { all_valid (toxicity_decimals x) ≡ true }
-    ensures { ToxicityFor x result }
-{
-    ToxicityNumbers {
-        sfo: number_of(x.sfo),
-        sfi: number_of(x.sfi),
-        sfx: number_of(x.sfx),
-        rfdo: number_of(x.rfdo),
-        rfdi: number_of(x.rfdi),
-    }
-}
-
-fn transfer_numbers(x: Transfer) -> TransferNumbers
-    requires { all_valid (transfer_decimals x) ≡ true }
-    ensures { TransferFor x result }
-{
-    TransferNumbers {
-        vf: number_of(x.vf),
-        pc: number_of(x.pc),
-    }
+    numbers
 }
 
 pub fn scenario_numbers(s: Scenario) -> Factors
@@ -137,9 +50,9 @@ pub fn scenario_numbers(s: Scenario) -> Factors
     ensures { FactorsFor s result }
 {
     Factors {
-        exposure: exposure_numbers(s.exposure),
-        contact: contact_numbers(s.contact),
-        targets: target_numbers(s.targets),
+        exposure: numbers_of(s.exposure.into()).into(),
+        contact: numbers_of(s.contact.into()).into(),
+        targets: numbers_of(s.targets.into()).into(),
     }
 }
 
@@ -148,7 +61,7 @@ pub fn contaminant_numbers(r: Contaminant) -> ContaminantNumbers
     ensures { NumbersFor r result }
 {
     ContaminantNumbers {
-        toxicity: toxicity_numbers(r.toxicity),
-        transfer: transfer_numbers(r.transfer),
+        toxicity: numbers_of(r.toxicity.into()).into(),
+        transfer: numbers_of(r.transfer.into()).into(),
     }
 }

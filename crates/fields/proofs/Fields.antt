@@ -1,9 +1,9 @@
 -- Fields in a part are those of the whole, and what the rule of several fields says. Assumes nothing.
 use mathlib.Core.Path.{◌≡◌, refl, sym, ap, ap₂, ◌∙◌}
-use mathlib.Core.List.{List, ◌∷◌}
+use mathlib.Core.List.{List, [], ◌∷◌, ◌++◌}
 use mathlib.Core.Bool.{Bool, true, false, ◌&&◌, and_assoc}
 use Prim.Native.Nat.{ℕ, zero, suc, ◌+◌, ◌*◌, ◌-◌, ◌≤◌, ◌<◌}
-use native.Mathlib.Nat.{add_assoc}
+use native.Mathlib.Nat.{add_assoc, add-zero}
 use native.Mathlib.Omega.{arith}
 use lib.Dec.{eqb}
 use Rattle.words.specs.Words.{part_of}
@@ -52,6 +52,17 @@ fields_split s at zero = refl
 fields_split s at (suc n) =
     ap (λ (x : Bool). (valid_of (decimal_at s at) && eqb (half_at s (at + 6)) 0) && x) (fields_split s (at + 8) n)
     ∙ and_swap (valid_of (decimal_at s at)) (eqb (half_at s (at + 6)) 0) (all_valid (decimals_at s (at + 8) n)) (unused_zero s (at + 8) n)
+
+-- ---- one field more
+pub decimals_more : (s : List ℕ) (at n : ℕ) → decimals_at s at (n + 1) ≡ decimals_at s at n ++ decimal_at s (at + 8 * n) ∷ []
+unfolding decimals_at
+decimals_more s at zero = ap (λ (k : ℕ). decimal_at s k ∷ []) (sym (add-zero at))
+decimals_more s at (suc n) =
+    let place : at + 8 + 8 * n ≡ at + 8 * suc n = omega arith in
+    let count : suc n + 1 ≡ suc (n + 1) = omega arith in
+    ap (decimals_at s at) count
+    ∙ ap (λ (ds : List Decimal). decimal_at s at ∷ ds) (decimals_more s (at + 8) n)
+    ∙ ap (λ (k : ℕ). decimal_at s at ∷ (decimals_at s (at + 8) n ++ decimal_at s k ∷ [])) place
 
 -- ---- the loop over n fields: field i is done, and those from i + 1 on are left
 pub unused_step : (s : List ℕ) (at n i : ℕ) (ok : Bool) → i < n

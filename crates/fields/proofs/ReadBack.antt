@@ -3,12 +3,14 @@
 use mathlib.Core.Path.{◌≡◌, refl, ap, ap₂, ◌∙◌, sym}
 use mathlib.Core.List.{List, [], ◌∷◌, ◌++◌, append_assoc, append-nil}
 use mathlib.Core.Bool.{Bool, true, ◌&&◌}
-use Prim.Native.Nat.{ℕ, suc, ◌+◌, ◌*◌, ◌%◌, ◌/◌}
+use Prim.Native.Nat.{ℕ, suc, ◌+◌, ◌*◌, ◌≤◌, ◌<◌, ◌%◌, ◌/◌}
 use native.Mathlib.Nat.{add_assoc}
 use native.Mathlib.Omega.{arith}
-use lib.ListN.{length, get_or, drop, length-append}
+use lib.ListN.{length, get_or, drop, take, length-append}
+use Rattle.std.proofs.lemmas.List.{take_more, length-take-le}
 use borrow.Author.Tests.{eq-eqb}
-use Rattle.words.specs.Bytes.{le4}
+use Rattle.words.specs.Bytes.{le4, placed}
+use Rattle.words.proofs.Written.{placed_placed}
 use Rattle.words.proofs.ReadBack.{rest_next, get_or_rest, word_rest}
 use Rattle.decimal.specs.declared.Decimal.{Decimal}
 use Rattle.decimal.specs.Decimal.{zero_of}
@@ -33,18 +35,25 @@ unfolding field_bytes
 field_bytes_append [] y = refl
 field_bytes_append (d ∷ x) y = ap (λ (t : List ℕ). field d ++ t) (field_bytes_append x y) ∙ sym (append_assoc (field d) (field_bytes x) (field_bytes y))
 
--- one field, two and four fields, one behind the other
 pub one_field : (d : Decimal) → field d ≡ field_bytes (d ∷ [])
 unfolding field_bytes
 one_field d = sym (append-nil (field d))
 
-pub two_fields : (a b : Decimal) → field a ++ field b ≡ field_bytes (a ∷ (b ∷ []))
-unfolding field_bytes
-two_fields a b = simp append-nil
+-- ---- fields written behind fields just written
+pub placed_fields : (d l l' : List ℕ) (at to : ℕ) (x y : List Decimal) → l ≡ placed d at (field_bytes x) → at + 8 * length x ≡ to → at ≤ length d
+    → l' ≡ placed l to (field_bytes y) → l' ≡ placed d at (field_bytes (x ++ y))
+placed_fields d l l' at to x y e n h g =
+    g ∙ ap (λ (t : List ℕ). placed t to (field_bytes y)) e
+    ∙ placed_placed d (field_bytes x) (field_bytes y) at to (omega (arith, field_bytes_length x)) h
+    ∙ ap (placed d at) (sym (field_bytes_append x y))
 
-pub four_fields : (a b c d : Decimal) → field a ++ field b ++ field c ++ field d ≡ field_bytes (a ∷ (b ∷ (c ∷ (d ∷ []))))
-unfolding field_bytes
-four_fields a b c d = simp (append_assoc, append-nil)
+-- one field behind the first n of ds
+pub placed_more : (d l l' : List ℕ) (at n : ℕ) (ds : List Decimal) → n < length ds → l ≡ placed d at (field_bytes (take n ds)) → at ≤ length d
+    → l' ≡ placed l (at + 8 * n) (field (get_or ds n zero_of)) → l' ≡ placed d at (field_bytes (take (n + 1) ds))
+placed_more d l l' at n ds k e h g =
+    let last = get_or ds n zero_of in
+    placed_fields d l l' at (at + 8 * n) (take n ds) (last ∷ []) e (omega (arith, length-take-le n ds (omega arith))) h (g ∙ ap (placed l (at + 8 * n)) (one_field last))
+    ∙ ap (λ (x : List Decimal). placed d at (field_bytes x)) (sym (take_more ds n zero_of k))
 
 -- ---- a valid decimal fits a field
 pub valid_fits : (d : Decimal) → valid_of d ≡ true → InField d

@@ -1,41 +1,32 @@
 // Decimal fields of eight bytes in byte slices: m (4 bytes), e (2, two's complement), two zero bytes.
 #![tactic(auto)]
 
-ghost use Rattle.std.specs.Prelude.{◌≡◌, [], ◌∷◌, ◌+◌, ◌*◌, ◌≤◌, ◌<◌, length};
+ghost use Rattle.std.specs.Prelude.{◌≡◌, ◌+◌, ◌*◌, ◌≤◌, length};
 ghost use Rattle.words.specs.Bytes.{placed};
-ghost use Rattle.fields.specs.Fields.{half_at, signed_of, code_of, decimal_at, unused_zero, field, field_bytes};
+ghost use Rattle.fields.specs.Fields.{half_at, signed_of, code_of, decimal_at, decimals_at, unused_zero, field, field_bytes};
 
 use decimal::Decimal;
 
 // The signed number that 16 bits stand for.
-fn exponent(h: u32) -> i32
-    requires { h < 65536 }
+fn exponent(h: u16) -> i32
     ensures { result ≡ signed_of h }
 {
-    if h < 32768 {
-        h as i32
-    } else {
-        -1 - (65535 - h) as i32
-    }
+    i32::from(h.cast_signed())
 }
 
 // The 16 bits of a signed number.
 fn code(e: i32) -> u32
     ensures { result ≡ code_of e }
 {
-    if 0 <= e {
-        e as u32 % 65536
-    } else {
-        65535 - (-1 - e) as u32 % 65536
-    }
+    e.cast_unsigned() % 65536
 }
 
 // The number in the two bytes at `at`, lowest first.
-fn half(s: &[u8], at: usize) -> u32
+fn half(s: &[u8], at: usize) -> u16
     requires { at + 2 ≤ length s.now }
-    ensures { (result ≡ half_at s.now at) × (result < 65536) }
+    ensures { result ≡ half_at s.now at }
 {
-    s[at] as u32 + 256 * (s[at + 1] as u32)
+    u16::from_le_bytes([s[at], s[at + 1]])
 }
 
 // The decimal in the field at `at`, whether or not it keeps its rule.
@@ -49,16 +40,26 @@ pub fn read(s: &[u8], at: usize) -> Decimal
     }
 }
 
-// Whether the last two bytes of each of n fields from `at` on are zero.
+// The decimals in the N fields from `at` on.
+pub fn read_all<const N: usize>(s: &[u8], at: usize) -> [Decimal; N]
+    requires { at + 8 * N ≤ length s.now }
+    ensures { result ≡ decimals_at s.now at N }
+{
+    let mut ds = [Decimal { m: 0, e: 0 }; N];
+    for i in 0..N {
+        ds[i] = read(s, at + 8 * i);
+    }
+    ds
+}
+
+// Whether the last two bytes of each of n fields from `at` on are zero. No branch depends on them.
 pub fn unused_zero(s: &[u8], at: usize, n: usize) -> bool
     requires { at + 8 * n ≤ length s.now }
     ensures { result ≡ unused_zero s.now at n }
 {
     let mut ok = true;
-    let mut i: usize = 0;
-    while i < n {
-        ok = inputs::both(ok, half(s, at + 8 * i + 6) == 0);
-        i += 1;
+    for i in 0..n {
+        ok &= half(s, at + 8 * i + 6) == 0;
     }
     ok
 }
@@ -72,21 +73,12 @@ pub fn put(out: &mut [u8], at: usize, d: Decimal)
     words::put(out, at + 4, code(d.e));
 }
 
-// Writes the fields of two decimals, and of four, from `at` on.
-pub fn put_two(out: &mut [u8], at: usize, a: Decimal, b: Decimal)
-    requires { at + 16 ≤ length out.old }
-    ensures { out.new ≡ placed out.old at (field_bytes (a ∷ (b ∷ []))) }
+// Writes the fields of N decimals, from `at` on.
+pub fn put_all<const N: usize>(out: &mut [u8], at: usize, ds: [Decimal; N])
+    requires { at + 8 * N ≤ length out.old }
+    ensures { out.new ≡ placed out.old at (field_bytes ds.entry) }
 {
-    put(out, at, a);
-    put(out, at + 8, b);
-}
-
-pub fn put_four(out: &mut [u8], at: usize, a: Decimal, b: Decimal, c: Decimal, d: Decimal)
-    requires { at + 32 ≤ length out.old }
-    ensures { out.new ≡ placed out.old at (field_bytes (a ∷ (b ∷ (c ∷ (d ∷ []))))) }
-{
-    put(out, at, a);
-    put(out, at + 8, b);
-    put(out, at + 16, c);
-    put(out, at + 24, d);
+    for i in 0..N {
+        put(out, at + 8 * i, ds[i]);
+    }
 }

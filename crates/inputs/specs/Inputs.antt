@@ -11,19 +11,19 @@ use Rattle.inputs.specs.declared.Transfer.{Transfer}
 use Rattle.inputs.specs.declared.Contaminant.{Contaminant}
 
 -- ---- the groups
-abbrev pub exposure_decimals : Exposure → List Decimal
+abbrev pub exposure_decimals : {T : Type 0} → Exposure T → List T
 exposure_decimals x = x.ef ∷ (x.ed ∷ (x.bw ∷ (x.at ∷ [])))
 
-abbrev pub contact_decimals : Contact → List Decimal
+abbrev pub contact_decimals : {T : Type 0} → Contact T → List T
 contact_decimals x = x.ir ∷ (x.ira ∷ (x.pef ∷ (x.et ∷ (x.rf ∷ (x.sa ∷ [])))))
 
-abbrev pub target_decimals : Targets → List Decimal
+abbrev pub target_decimals : {T : Type 0} → Targets T → List T
 target_decimals x = x.tr ∷ (x.thi ∷ [])
 
-abbrev pub toxicity_decimals : Toxicity → List Decimal
+abbrev pub toxicity_decimals : {T : Type 0} → Toxicity T → List T
 toxicity_decimals x = x.sfo ∷ (x.sfi ∷ (x.sfx ∷ (x.rfdo ∷ (x.rfdi ∷ []))))
 
-abbrev pub transfer_decimals : Transfer → List Decimal
+abbrev pub transfer_decimals : {T : Type 0} → Transfer T → List T
 transfer_decimals x = x.vf ∷ (x.pc ∷ [])
 
 -- ---- a scenario, and a contaminant: what its formulas name, then the others
@@ -51,19 +51,19 @@ contaminant_places = 8
 abbrev nth : List Decimal → ℕ → Decimal
 nth l n = get_or l n zero_of
 
-unfoldable pub exposure_of : List Decimal → Exposure
+unfoldable pub exposure_of : List Decimal → Exposure Decimal
 exposure_of l = record { ef = nth l 0; ed = nth l 1; bw = nth l 2; at = nth l 3 }
 
-unfoldable pub contact_of : List Decimal → Contact
+unfoldable pub contact_of : List Decimal → Contact Decimal
 contact_of l = record { ir = nth l 0; ira = nth l 1; pef = nth l 2; et = nth l 3; rf = nth l 4; sa = nth l 5 }
 
-unfoldable pub targets_of : List Decimal → Targets
+unfoldable pub targets_of : List Decimal → Targets Decimal
 targets_of l = record { tr = nth l 0; thi = nth l 1 }
 
-unfoldable pub toxicity_of : List Decimal → Toxicity
+unfoldable pub toxicity_of : List Decimal → Toxicity Decimal
 toxicity_of l = record { sfo = nth l 0; sfi = nth l 1; sfx = nth l 2; rfdo = nth l 3; rfdi = nth l 4 }
 
-unfoldable pub transfer_of : List Decimal → Transfer
+unfoldable pub transfer_of : List Decimal → Transfer Decimal
 transfer_of l = record { vf = nth l 0; pc = nth l 1 }
 
 unfoldable pub scenario_of : List Decimal → Scenario

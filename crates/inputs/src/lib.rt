@@ -23,55 +23,55 @@ const GREATEST: u64 = BIAS + 20;
 // How often and how long, and of whom: exposure frequency, days per year; exposure duration, years; body weight, kg;
 // averaging time, years.
 #[derive(Clone, Copy)]
-pub struct Exposure {
-    pub ef: Decimal,
-    pub ed: Decimal,
-    pub bw: Decimal,
-    pub at: Decimal,
+pub struct Exposure<T> {
+    pub ef: T,
+    pub ed: T,
+    pub bw: T,
+    pub at: T,
 }
 
 // How much meets the body: ingestion, mg of soil or litres of water a day; inhalation, m³ a day; particulate emission factor,
 // m³/kg; hours a day, outdoors or with skin in water; dose reduction factor; skin, cm².
 #[derive(Clone, Copy)]
-pub struct Contact {
-    pub ir: Decimal,
-    pub ira: Decimal,
-    pub pef: Decimal,
-    pub et: Decimal,
-    pub rf: Decimal,
-    pub sa: Decimal,
+pub struct Contact<T> {
+    pub ir: T,
+    pub ira: T,
+    pub pef: T,
+    pub et: T,
+    pub rf: T,
+    pub sa: T,
 }
 
 // Target risk and target hazard.
 #[derive(Clone, Copy)]
-pub struct Targets {
-    pub tr: Decimal,
-    pub thi: Decimal,
+pub struct Targets<T> {
+    pub tr: T,
+    pub thi: T,
 }
 
 // A land-use scenario.
 #[derive(Clone, Copy)]
 pub struct Scenario {
-    pub exposure: Exposure,
-    pub contact: Contact,
-    pub targets: Targets,
+    pub exposure: Exposure<Decimal>,
+    pub contact: Contact<Decimal>,
+    pub targets: Targets<Decimal>,
 }
 
 // Slope factors, oral, inhaled and external; reference doses, oral and inhaled.
 #[derive(Clone, Copy)]
-pub struct Toxicity {
-    pub sfo: Decimal,
-    pub sfi: Decimal,
-    pub sfx: Decimal,
-    pub rfdo: Decimal,
-    pub rfdi: Decimal,
+pub struct Toxicity<T> {
+    pub sfo: T,
+    pub sfi: T,
+    pub sfx: T,
+    pub rfdo: T,
+    pub rfdi: T,
 }
 
 // Volatilization factor, m³/kg, and skin permeability, cm/hr.
 #[derive(Clone, Copy)]
-pub struct Transfer {
-    pub vf: Decimal,
-    pub pc: Decimal,
+pub struct Transfer<T> {
+    pub vf: T,
+    pub pc: T,
 }
 
 // A contaminant: its class (1 chemical, 2 radionuclide), its id, and its measured concentration C.
@@ -79,8 +79,8 @@ pub struct Transfer {
 pub struct Contaminant {
     pub class: u32,
     pub id: u32,
-    pub toxicity: Toxicity,
-    pub transfer: Transfer,
+    pub toxicity: Toxicity<Decimal>,
+    pub transfer: Transfer<Decimal>,
     pub c: Decimal,
 }
 
@@ -207,6 +207,105 @@ impl Contaminant {
     };
 }
 
+// Each group as an array, in the order of the block, and out of one.
+impl<T: Copy> From<[T; 4]> for Exposure<T> {
+    ghost from_gives = { λ l x. exposure_decimals x ≡ l };
+
+    fn from(values: [T; 4]) -> Exposure<T> {
+        let [ef, ed, bw, at] = values;
+        Exposure { ef, ed, bw, at }
+    }
+}
+
+impl<T: Copy> From<Exposure<T>> for [T; 4] {
+    ghost from_gives = { λ x l. l ≡ exposure_decimals x };
+
+    fn from(x: Exposure<T>) -> [T; 4] {
+        [x.ef, x.ed, x.bw, x.at]
+    }
+}
+
+impl<T: Copy> From<[T; 6]> for Contact<T> {
+    ghost from_gives = { λ l x. contact_decimals x ≡ l };
+
+    fn from(values: [T; 6]) -> Contact<T> {
+        let [ir, ira, pef, et, rf, sa] = values;
+        Contact {
+            ir,
+            ira,
+            pef,
+            et,
+            rf,
+            sa,
+        }
+    }
+}
+
+impl<T: Copy> From<Contact<T>> for [T; 6] {
+    ghost from_gives = { λ x l. l ≡ contact_decimals x };
+
+    fn from(x: Contact<T>) -> [T; 6] {
+        [x.ir, x.ira, x.pef, x.et, x.rf, x.sa]
+    }
+}
+
+impl<T: Copy> From<[T; 2]> for Targets<T> {
+    ghost from_gives = { λ l x. target_decimals x ≡ l };
+
+    fn from(values: [T; 2]) -> Targets<T> {
+        let [tr, thi] = values;
+        Targets { tr, thi }
+    }
+}
+
+impl<T: Copy> From<Targets<T>> for [T; 2] {
+    ghost from_gives = { λ x l. l ≡ target_decimals x };
+
+    fn from(x: Targets<T>) -> [T; 2] {
+        [x.tr, x.thi]
+    }
+}
+
+impl<T: Copy> From<[T; 5]> for Toxicity<T> {
+    ghost from_gives = { λ l x. toxicity_decimals x ≡ l };
+
+    fn from(values: [T; 5]) -> Toxicity<T> {
+        let [sfo, sfi, sfx, rfdo, rfdi] = values;
+        Toxicity {
+            sfo,
+            sfi,
+            sfx,
+            rfdo,
+            rfdi,
+        }
+    }
+}
+
+impl<T: Copy> From<Toxicity<T>> for [T; 5] {
+    ghost from_gives = { λ x l. l ≡ toxicity_decimals x };
+
+    fn from(x: Toxicity<T>) -> [T; 5] {
+        [x.sfo, x.sfi, x.sfx, x.rfdo, x.rfdi]
+    }
+}
+
+impl<T: Copy> From<[T; 2]> for Transfer<T> {
+    ghost from_gives = { λ l x. transfer_decimals x ≡ l };
+
+    fn from(values: [T; 2]) -> Transfer<T> {
+        let [vf, pc] = values;
+        Transfer { vf, pc }
+    }
+}
+
+impl<T: Copy> From<Transfer<T>> for [T; 2] {
+    ghost from_gives = { λ x l. l ≡ transfer_decimals x };
+
+    fn from(x: Transfer<T>) -> [T; 2] {
+        [x.vf, x.pc]
+    }
+}
+
 // Both tests. No branch depends on them.
 pub fn both(a: bool, b: bool) -> bool
     ensures { result ≡ a && b }
@@ -226,79 +325,39 @@ pub fn valid(d: Decimal) -> bool
     let x = decimal::biased_exponent(e);
     let low = LEAST <= x;
     let high = x <= GREATEST;
-    let range = both(low, high);
-    let zero = both(m == 0, x != BIAS);
-    both(m <= 999_999_999, both(range, !zero))
+    let zero = (m == 0) & (x != BIAS);
+    (m <= 999_999_999) & low & high & !zero
 }
 
-// Whether the decimals of each group keep their rule.
-fn valid_exposure(x: Exposure) -> bool
-    ensures { result ≡ all_valid (exposure_decimals x) }
+// Whether each decimal keeps its rule. No branch depends on them.
+pub fn all_valid<const N: usize>(ds: [Decimal; N]) -> bool
+    ensures { result ≡ all_valid ds.entry }
 {
-    let ef = valid(x.ef);
-    let ed = valid(x.ed);
-    let bw = valid(x.bw);
-    let at = valid(x.at);
-    both(ef, both(ed, both(bw, at)))
-}
-
-fn valid_contact(x: Contact) -> bool
-    ensures { result ≡ all_valid (contact_decimals x) }
-{
-    let ir = valid(x.ir);
-    let ira = valid(x.ira);
-    let pef = valid(x.pef);
-    let et = valid(x.et);
-    let rf = valid(x.rf);
-    let sa = valid(x.sa);
-    both(ir, both(ira, both(pef, both(et, both(rf, sa)))))
-}
-
-fn valid_targets(x: Targets) -> bool
-    ensures { result ≡ all_valid (target_decimals x) }
-{
-    let tr = valid(x.tr);
-    let thi = valid(x.thi);
-    both(tr, thi)
-}
-
-fn valid_toxicity(x: Toxicity) -> bool
-    ensures { result ≡ all_valid (toxicity_decimals x) }
-{
-    let sfo = valid(x.sfo);
-    let sfi = valid(x.sfi);
-    let sfx = valid(x.sfx);
-    let rfdo = valid(x.rfdo);
-    let rfdi = valid(x.rfdi);
-    both(sfo, both(sfi, both(sfx, both(rfdo, rfdi))))
-}
-
-fn valid_transfer(x: Transfer) -> bool
-    ensures { result ≡ all_valid (transfer_decimals x) }
-{
-    let vf = valid(x.vf);
-    let pc = valid(x.pc);
-    both(vf, pc)
+    let mut ok = true;
+    for d in ds {
+        ok &= valid(d);
+    }
+    ok
 }
 
 // Whether the decimals of a scenario keep their rule.
 pub fn valid_scenario(s: Scenario) -> bool
     ensures { result ≡ all_valid (scenario_decimals s) }
 {
-    let exposure = valid_exposure(s.exposure);
-    let contact = valid_contact(s.contact);
-    let targets = valid_targets(s.targets);
-    both(exposure, both(contact, targets))
+    let exposure = all_valid(s.exposure.into());
+    let contact = all_valid(s.contact.into());
+    let targets = all_valid(s.targets.into());
+    exposure & contact & targets
 }
 
 // Whether the decimals of a contaminant keep their rule.
 pub fn valid_contaminant(r: Contaminant) -> bool
     ensures { result ≡ all_valid (contaminant_decimals r) }
 {
-    let toxicity = valid_toxicity(r.toxicity);
-    let transfer = valid_transfer(r.transfer);
+    let toxicity = all_valid(r.toxicity.into());
+    let transfer = all_valid(r.transfer.into());
     let c = valid(r.c);
-    both(both(toxicity, transfer), c)
+    toxicity & transfer & c
 }
 
 // Whether a number is 1 or 2: a medium, or a class.
@@ -315,14 +374,14 @@ pub fn one_or_two(n: u32) -> bool
 pub fn scenario_fits(s: Scenario, medium: u32) -> bool
     ensures { result ≡ scenario_fits s medium }
 {
-    both(one_or_two(medium), valid_scenario(s))
+    one_or_two(medium) & valid_scenario(s)
 }
 
 // Whether the class, the id and the contaminant's decimals keep their rules.
 pub fn contaminant_fits(r: Contaminant) -> bool
     ensures { result ≡ contaminant_fits r }
 {
-    both(one_or_two(r.class), both(r.id != 0, valid_contaminant(r)))
+    one_or_two(r.class) & (r.id != 0) & valid_contaminant(r)
 }
 
 // Whether EF, ED, BW, AT, TR or THI is zero.
@@ -335,7 +394,7 @@ pub fn lacks_factor(s: Scenario) -> bool
     let at = s.exposure.at.m != 0;
     let tr = s.targets.tr.m != 0;
     let thi = s.targets.thi.m != 0;
-    !both(ef, both(ed, both(bw, both(at, both(tr, thi)))))
+    !(ef & ed & bw & at & tr & thi)
 }
 
 // What is sent back of a scenario in a medium: 4, then 6.

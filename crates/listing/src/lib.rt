@@ -25,11 +25,12 @@ pub fn get_side(block: &[u8], at: usize) -> SideGuidelines
     requires { (at ≤ 100) × (at + 32 ≤ length block.now) }
     ensures { result ≡ side_read block.now at }
 {
+    let [first, second, third, total] = fields::read_all::<4>(block, at);
     SideGuidelines {
-        first: fields::read(block, at),
-        second: fields::read(block, at + 8),
-        third: fields::read(block, at + 16),
-        total: fields::read(block, at + 24),
+        first,
+        second,
+        third,
+        total,
     }
 }
 

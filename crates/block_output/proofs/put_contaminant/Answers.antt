@@ -9,7 +9,7 @@ use Rattle.inputs.specs.Inputs.{toxicity_decimals, transfer_decimals, contaminan
 use Rattle.block_rules.specs.Pieces.{contaminant_pieces, unused_bytes}
 use Rattle.block_rules.specs.Layouts.{first_words, body_of, unused_of, contaminant_block}
 use Rattle.block_rules.proofs.Lengths.{first_words_length}
-use Rattle.block_output.proofs.Blocks.{wrote_fields, wrote_block}
+use Rattle.block_output.proofs.Blocks.{wrote_group, wrote_fields, wrote_block}
 use Rattle.block_output.proofs.put_contaminant.Goals as goal
 
 pub returns : goal.returns
@@ -22,9 +22,9 @@ returns c =
     let y = transfer_decimals r.transfer in
     let gap = unused_of contaminant_pieces in
     let w₁ = wrote_next c.put_first_words.new.out first 16 (wrote_none c.args.out.now) c.put_first_words.ensures (first_words_length 2 p r.class r.id) in
-    let w₂ = wrote_next c.put_toxicity.new.out (field_bytes x) _ w₁ c.put_toxicity.ensures (field_bytes_length x) in
-    let w₃ = wrote_fields first x y _ c.put_transfer.new.out w₂ c.put_transfer.ensures refl in
-    let last = c.put.ensures ∙ ap (placed c.put_transfer.new.out 72) (one_field r.c) in
+    let w₂ = wrote_next c.put_all.new.out (field_bytes x) _ w₁ (wrote_group _ _ c.put_all.ensures c.into.ensures) (field_bytes_length x) in
+    let w₃ = wrote_fields first x y _ c.put_all-2.new.out w₂ (wrote_group _ _ c.put_all-2.ensures c.into-2.ensures) refl in
+    let last = c.put.ensures ∙ ap (placed c.put_all-2.new.out 72) (one_field r.c) in
     let w₄ = wrote_fields first (x ++ y) (r.c ∷ []) _ c.put.new.out w₃ last refl in
     let w₅ = wrote_next c.clear.new.out gap _ w₄ c.clear.ensures (length-replicate {A = ℕ} (unused_bytes contaminant_pieces) 0) in
     wrote_block 2 p r.class r.id (contaminant_decimals r) gap c.put_last_word.new.out w₅ c.put_last_word.ensures

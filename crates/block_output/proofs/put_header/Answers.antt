@@ -8,7 +8,7 @@ use Rattle.inputs.specs.Inputs.{exposure_decimals, contact_decimals, target_deci
 use Rattle.block_rules.specs.Pieces.{header_pieces, unused_bytes}
 use Rattle.block_rules.specs.Layouts.{first_words, body_of, unused_of, header_block}
 use Rattle.block_rules.proofs.Lengths.{first_words_length}
-use Rattle.block_output.proofs.Blocks.{wrote_fields, wrote_block}
+use Rattle.block_output.proofs.Blocks.{wrote_group, wrote_fields, wrote_block}
 use Rattle.block_output.proofs.put_header.Goals as goal
 
 pub returns : goal.returns
@@ -22,8 +22,8 @@ returns c =
     let z = target_decimals s.targets in
     let gap = unused_of header_pieces in
     let w₁ = wrote_next c.put_first_words.new.out first 16 (wrote_none c.args.out.now) c.put_first_words.ensures (first_words_length 1 0 h.medium h.count) in
-    let w₂ = wrote_next c.put_exposure.new.out (field_bytes x) _ w₁ c.put_exposure.ensures (field_bytes_length x) in
-    let w₃ = wrote_fields first x y _ c.put_contact.new.out w₂ c.put_contact.ensures refl in
-    let w₄ = wrote_fields first (x ++ y) z _ c.put_targets.new.out w₃ c.put_targets.ensures refl in
+    let w₂ = wrote_next c.put_all.new.out (field_bytes x) _ w₁ (wrote_group _ _ c.put_all.ensures c.into.ensures) (field_bytes_length x) in
+    let w₃ = wrote_fields first x y _ c.put_all-2.new.out w₂ (wrote_group _ _ c.put_all-2.ensures c.into-2.ensures) refl in
+    let w₄ = wrote_fields first (x ++ y) z _ c.put_all-3.new.out w₃ (wrote_group _ _ c.put_all-3.ensures c.into-3.ensures) refl in
     let w₅ = wrote_next c.clear.new.out gap _ w₄ c.clear.ensures (length-replicate {A = ℕ} (unused_bytes header_pieces) 0) in
     wrote_block 1 0 h.medium h.count (scenario_decimals s) gap c.put_last_word.new.out w₅ c.put_last_word.ensures

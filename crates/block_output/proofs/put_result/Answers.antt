@@ -22,7 +22,7 @@ returns c =
     let y : List Decimal = h.first ∷ (h.second ∷ (h.third ∷ (h.total ∷ []))) in
     let gap = unused_of result_pieces in
     let w₁ = wrote_next c.put_first_words.new.out first 16 (wrote_none v.out.now) c.put_first_words.ensures (first_words_length 3 v.place v.class v.id) in
-    let w₂ = wrote_next c.put_four.new.out (field_bytes x) 32 w₁ c.put_four.ensures (field_bytes_length x) in
-    let w₃ = wrote_fields first x y 32 c.put_four-2.new.out w₂ c.put_four-2.ensures refl in
+    let w₂ = wrote_next c.put_all.new.out (field_bytes x) 32 w₁ c.put_all.ensures (field_bytes_length x) in
+    let w₃ = wrote_fields first x y 32 c.put_all-2.new.out w₂ c.put_all-2.ensures refl in
     let w₄ = wrote_next c.clear.new.out gap _ w₃ c.clear.ensures (length-replicate {A = ℕ} (unused_bytes result_pieces) 0) in
     wrote_block 3 v.place v.class v.id (guideline_decimals r h) gap c.put_last_word.new.out w₄ c.put_last_word.ensures

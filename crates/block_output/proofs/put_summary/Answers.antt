@@ -31,7 +31,7 @@ returns c =
     let gap = unused_of summary_pieces in
     let body = body_of 4 0 0 0 x (u ++ (v ++ gap)) in
     let w₁ = wrote_next c.put_first_words.new.out first 16 (wrote_none d) c.put_first_words.ensures (first_words_length 4 0 0 0) in
-    let w₂ = wrote_next c.put_four.new.out (field_bytes x) _ w₁ c.put_four.ensures (field_bytes_length x) in
+    let w₂ = wrote_next c.put_all.new.out (field_bytes x) _ w₁ c.put_all.ensures (field_bytes_length x) in
     let w₃ = wrote_word (verdict_number r.verdict) c.put.new.out w₂ c.put.ensures c.verdict_number.ensures in
     let w₄ = wrote_word (verdict_number h.verdict) c.put-2.new.out w₃ c.put-2.ensures c.verdict_number-2.ensures in
     let w₅ = wrote_next c.clear.new.out gap _ w₄ c.clear.ensures (length-replicate {A = ℕ} (unused_bytes summary_pieces) 0) in

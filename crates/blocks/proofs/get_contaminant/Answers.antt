@@ -1,4 +1,5 @@
 -- `blocks::get_contaminant`: each word and each decimal is the one of its place.
+use Rattle.std.proofs.Common.{ap, ◌∙◌}
 use native.Mathlib.Nat.{add_assoc}
 use Rattle.inputs.specs.Inputs.{contaminant_of, toxicity_of, transfer_of}
 use Rattle.fields.specs.Fields.{decimals_at}
@@ -7,4 +8,7 @@ use Rattle.blocks.proofs.get_contaminant.Goals as goal
 
 pub returns : goal.returns
 unfolding contaminant_at contaminant_of toxicity_of transfer_of decimals_at
-returns c = simp (add_assoc, c.word.ensures, c.word-2.ensures, c.get_toxicity.ensures, c.get_transfer.ensures, c.read.ensures)
+returns c =
+    let toxicity = ap toxicity_of (c.into.ensures ∙ c.read_all.ensures) in
+    let transfer = ap transfer_of (c.into-2.ensures ∙ c.read_all-2.ensures) in
+    simp (add_assoc, c.word.ensures, c.word-2.ensures, toxicity, transfer, c.read.ensures)

@@ -14,6 +14,6 @@ returns c =
     let d = c.args.out.now in
     let x : List Decimal = r.first ∷ (r.second ∷ (r.third ∷ (r.total ∷ []))) in
     let y : List Decimal = h.first ∷ (h.second ∷ (h.third ∷ (h.total ∷ []))) in
-    let w₁ = wrote_next c.put_four.new.out (field_bytes x) 32 (wrote_none d) c.put_four.ensures (field_bytes_length x) in
-    let w₂ = wrote_next c.put_four-2.new.out (field_bytes y) 32 w₁ c.put_four-2.ensures (field_bytes_length y) in
+    let w₁ = wrote_next c.put_all.new.out (field_bytes x) 32 (wrote_none d) c.put_all.ensures (field_bytes_length x) in
+    let w₂ = wrote_next c.put_all-2.new.out (field_bytes y) 32 w₁ c.put_all-2.ensures (field_bytes_length y) in
     w₂.now ∙ ap (λ (l : List ℕ). over l d) (sym (field_bytes_append x y))

@@ -1,9 +1,12 @@
--- `fields::code`: the remainder is the code of a number from zero on, and of one below zero.
-use Rattle.fields.proofs.Exponents.{up_value, down_value}
+-- `fields::code`: the low 16 bits of a number are its code.
+use Rattle.std.proofs.Common.{ℕ, ◌%◌, ap, ◌∙◌}
+use mir.Syntax.{w32}
+use mir.Val.{of_z}
+use mir.Facts.{to_z-of_z}
+use Rattle.fields.proofs.Exponents.{code_is}
 use Rattle.fields.proofs.code.Goals as goal
 
-pub returns-then-e-ge0 : goal.returns-then-e-ge0
-returns-then-e-ge0 c = up_value c.args.e c.ranges.e c.if-e-ge0.true
-
-pub returns-else-e-ge0 : goal.returns-else-e-ge0
-returns-else-e-ge0 c = down_value c.args.e c.ranges.e c.if-e-ge0.false
+pub returns : goal.returns
+returns c =
+    let bits = c.cast_unsigned.ensures ∙ ap (of_z w32) (to_z-of_z c.ranges.e) in
+    ap (λ (n : ℕ). n % 65536) bits ∙ code_is c.args.e c.ranges.e

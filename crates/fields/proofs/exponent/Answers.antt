@@ -1,12 +1,12 @@
--- `fields::exponent`: below 32768 the number itself, from there on the negative one.
-use Rattle.std.proofs.Common.{sym, ◌∙◌, arith}
-use mir.Syntax.{w32}
-use mir.Facts.{to_z_pos}
-use Rattle.fields.proofs.Exponents.{minus_value, signed_pos}
+-- `fields::exponent`: the library's reading of 16 bits is the definition's.
+use Rattle.std.proofs.Common.{◌∙◌}
+use mir.Syntax.{w16, w32}
+use mir.Facts.{to_z-of_z}
+use Rattle.fields.proofs.Exponents.{signed_is}
 use Rattle.fields.proofs.exponent.Goals as goal
 
-pub returns-then-h-lt32768 : goal.returns-then-h-lt32768
-returns-then-h-lt32768 c = to_z_pos w32 {n = c.args.h} (omega arith) ∙ sym (signed_pos c.args.h c.if-h-lt32768.true)
-
-pub returns-else-h-lt32768 : goal.returns-else-h-lt32768
-returns-else-h-lt32768 c = minus_value c.args.h c.if-h-lt32768.false
+pub returns : goal.returns
+returns c =
+    let wide = to_z-of_z {w = w32} {z = c.from.result} (record { sfits = c.from.type_inv }) in
+    let read = to_z-of_z {w = w16} {z = c.cast_signed.result} (record { sfits = c.cast_signed.type_inv }) in
+    wide ∙ c.from.ensures ∙ read ∙ c.cast_signed.ensures ∙ signed_is c.args.h

@@ -9,5 +9,5 @@ pub returns : goal.returns
 unfolding decimal_at
 returns c = λ k. record {
   m = c.word.ensures k;
-  e = (to_z-of_z {w = w32} {z = c.exponent.result} (record { sfits = c.exponent.type_inv }) ∙ c.exponent.ensures ∙ ap signed_of c.half.ensures.0) k;
+  e = (to_z-of_z {w = w32} {z = c.exponent.result} (record { sfits = c.exponent.type_inv }) ∙ c.exponent.ensures ∙ ap signed_of c.half.ensures) k;
 }

@@ -1,7 +1,7 @@
 -- `fields::unused_zero`: one more field is looked at.
-use Rattle.std.proofs.Common.{◌≡◌, ℕ, ◌+◌, ◌*◌, ◌-◌, Bool, ◌&&◌, eqb, sym, ap, ◌∙◌, arith}
+use Rattle.std.proofs.Common.{◌≡◌, ℕ, ◌+◌, ◌*◌, ◌-◌, ◌&&◌, eqb, sym, ap, ◌∙◌, arith}
 use mathlib.Core.Bool.{and-true}
-use Rattle.fields.specs.Fields.{half_at, unused_zero}
+use Rattle.fields.specs.Fields.{unused_zero}
 use Rattle.fields.proofs.Fields.{unused_step}
 use Rattle.fields.proofs.unused_zero.Goals as goal
 
@@ -12,11 +12,8 @@ loop-i-preserved c =
     let n = c.args.n in
     let i = c.loop-i.i in
     let ok = c.loop-i.ok in
-    let test : c.both-ok.result ≡ (ok && eqb (half_at s (at + 8 * i + 6)) 0) = c.both-ok.ensures ∙ ap (λ (h : ℕ). ok && eqb h 0) c.half.ensures.0 in
-    record {
-      upto = omega arith;
-      so_far = ap (λ (b : Bool). b && unused_zero s (at + 8 * (i + 1)) (n - (i + 1))) test ∙ unused_step s at n i ok (omega arith) ∙ c.loop-i.invariant.so_far;
-    }
+    ap (λ (h : ℕ). (ok && eqb h 0) && unused_zero s (at + 8 * (i + 1)) (n - (i + 1))) c.half.ensures
+    ∙ unused_step s at n i ok c.loop-i-test.true ∙ c.loop-i.invariant
 
 pub returns : goal.returns
 unfolding unused_zero
@@ -24,4 +21,4 @@ returns c =
     let i = c.loop-i.i in
     let ok = c.loop-i.ok in
     let left : c.args.n - i ≡ 0 = omega arith in
-    sym (and-true ok) ∙ ap (λ (k : ℕ). ok && unused_zero c.args.s.now (c.args.at + 8 * i) k) (sym left) ∙ c.loop-i.invariant.so_far
+    sym (and-true ok) ∙ ap (λ (k : ℕ). ok && unused_zero c.args.s.now (c.args.at + 8 * i) k) (sym left) ∙ c.loop-i.invariant

@@ -1,7 +1,9 @@
--- `listing::get_side`: four decimals read one after another. Assumes nothing.
+-- `listing::get_side`: each decimal of the four is the one of its place. Assumes nothing.
+use native.Mathlib.Nat.{add_assoc}
+use Rattle.fields.specs.Fields.{decimals_at}
 use Rattle.listing.specs.Asked.{side_read}
 use Rattle.listing.proofs.get_side.Goals as goal
 
 pub returns : goal.returns
-unfolding side_read
-returns c = λ i. record { first = c.read.ensures i; second = c.read-2.ensures i; third = c.read-3.ensures i; total = c.read-4.ensures i }
+unfolding side_read decimals_at
+returns c = simp (add_assoc, c.read_all.ensures)

@@ -1,6 +1,8 @@
 -- `factors::numbers::contaminant_numbers`: the numbers of its two groups, one after the other.
-use Rattle.factors.proofs.StandsLaws.{stands_join}
+use Rattle.factors.proofs.StandsLaws.{stands_join, stands_same}
 use Rattle.factors.proofs.numbers.contaminant_numbers.Goals as goal
 
 pub returns : goal.returns
-returns c = stands_join c.toxicity_numbers.ensures c.transfer_numbers.ensures
+returns c =
+    let toxicity = stands_same c.into.ensures c.numbers_of.ensures c.into-2.ensures in
+    stands_join toxicity (stands_same c.into-3.ensures c.numbers_of-2.ensures c.into-4.ensures)

@@ -1,6 +1,9 @@
 -- `factors::numbers::scenario_numbers`: the numbers of its three groups, one after the other.
-use Rattle.factors.proofs.StandsLaws.{stands_join}
+use Rattle.factors.proofs.StandsLaws.{stands_join, stands_same}
 use Rattle.factors.proofs.numbers.scenario_numbers.Goals as goal
 
 pub returns : goal.returns
-returns c = stands_join c.exposure_numbers.ensures (stands_join c.contact_numbers.ensures c.target_numbers.ensures)
+returns c =
+    let exposure = stands_same c.into.ensures c.numbers_of.ensures c.into-2.ensures in
+    let contact = stands_same c.into-3.ensures c.numbers_of-2.ensures c.into-4.ensures in
+    stands_join exposure (stands_join contact (stands_same c.into-5.ensures c.numbers_of-3.ensures c.into-6.ensures))
