@@ -65,3 +65,7 @@ digits_short (suc k) (suc m) n h = last_most (ltb n 10) n (suc k) (digits_of m (
 pub number_short : (k n : ℕ) → n < 10 ^ suc k → length (number_text n) ≤ suc k
 unfolding number_text
 number_short k n h = digits_short k 10 n h
+
+-- the tenth of a number of 32 bits leaves room for one more
+pub tenth_short : (n : ℕ) → n < 10000000000 → length (number_text (n / 10)) ≤ 9
+tenth_short n h = number_short 8 (n / 10) (omega arith)
