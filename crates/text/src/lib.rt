@@ -3,7 +3,7 @@
 
 ghost use Rattle.std.specs.Prelude.{◌≡◌, [], ◌∷◌, ◌+◌, ◌/◌, ◌%◌, ◌≤◌, length};
 ghost use Rattle.text.specs.Text.{put, HasRoom};
-ghost use Rattle.text.specs.Numbers.{digit, number_text};
+ghost use Rattle.text.specs.Numbers.{digit, last_digits, number_text};
 ghost use Rattle.text.specs.Decimals.{digits_text, exponent_text, or_else};
 
 use decimal::Decimal;
@@ -54,24 +54,25 @@ impl Text<'_> {
         self.put_byte(last_digit(n));
     }
 
+    // So many last digits of n, with leading zeros.
+    fn put_last(&mut self, n: u32, count: u32)
+        requires { HasRoom self.old count }
+        ensures { self.new ≡ put self.old (last_digits count n) }
+    {
+        if count > 0 {
+            self.put_last(n / 10, count - 1);
+            self.put_byte(last_digit(n));
+        }
+    }
+
     // The last nine digits of m, a point after the first.
-    #[tactic(auto, unfolding(crate::specs::Decimals::digits_text))]
     fn put_digits(&mut self, m: u32)
         requires { HasRoom self.old 10 }
         ensures { self.new ≡ put self.old (digits_text m) }
     {
-        self.put_word(&[
-            last_digit(m / 100000000),
-            b'.',
-            last_digit(m / 10000000),
-            last_digit(m / 1000000),
-            last_digit(m / 100000),
-            last_digit(m / 10000),
-            last_digit(m / 1000),
-            last_digit(m / 100),
-            last_digit(m / 10),
-            last_digit(m),
-        ]);
+        self.put_byte(last_digit(m / 100000000));
+        self.put_byte(b'.');
+        self.put_last(m, 8);
     }
 
     // E, a sign and the size of e + 8, where x is e counted from -3000.
