@@ -1,4 +1,3 @@
 pub mod BlockLines
-pub mod Progress
 pub mod ResultLines
 pub mod Listings

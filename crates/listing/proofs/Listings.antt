@@ -15,6 +15,7 @@ use Rattle.site_rules.specs.Blocks.{header_of}
 use Rattle.site_rules.specs.Site.{site_answer}
 use Rattle.site_rules.specs.Results.{site_left}
 use Rattle.site_rules.proofs.Opened.{site_long}
+use Rattle.listing_rules.specs.declared.Side.TheVariants.{Risk, Hazard}
 use Rattle.listing_rules.specs.Lines.{sum_line, refusal_line}
 use Rattle.listing_rules.specs.Listing.{accepted_text, text_of, listing_of, text_room, text_length, text_left}
 use Rattle.listing.specs.Asked.{block_text, Written, Answered}
@@ -35,7 +36,7 @@ count_is w = omega (arith, site_long w.opened)
 pub accepted_parts : {site results : List ℕ} (a : SumsAnswer) → Written site results → block_text results (length site / 512 - 1) a ≡ accepted_text site a
 unfolding accepted_text
 accepted_parts {site} {results} a w =
-    ap (λ (k : ℕ). block_text results k a) (count_is w) ∙ ap (λ (l : List ℕ). l ++ sum_line 0 a.risk ++ sum_line 1 a.hazard) w.lines
+    ap (λ (k : ℕ). block_text results k a) (count_is w) ∙ ap (λ (l : List ℕ). l ++ sum_line Risk a.risk ++ sum_line Hazard a.hazard) w.lines
 
 pub text_refused : (site : List ℕ) (a : SumsAnswer) (n : ℕ) → n ≡ number_of a.refusal → (n ≡ 0 → ⊥) → refusal_line n a.block ≡ text_of site a
 unfolding text_of
@@ -55,12 +56,17 @@ module _ (site : List ℕ) (out : ℕ) (text : List ℕ) where
       let e : leb 24576 (length text) ≡ false = lt-leb 24576 (length text) h in
       (rw e, rw e)
 
-  pub enough : {a : SumsAnswer} {n : ℕ} {left : List ℕ} → 24576 ≤ length text → a ≡ site_answer site out → (n ≡ length (text_of site a)) × (left ≡ over (text_of site a) text) →
-      (n ≡ text_length site out text) × (left ≡ text_left site out text)
-  unfolding text_length text_left text_room listing_of
-  enough {a} h q p =
-      let e : leb 24576 (length text) ≡ true = le-leb 24576 (length text) h in
-      (p.0 ∙ ap (λ (x : SumsAnswer). length (text_of site x)) q ∙ rw e, p.1 ∙ ap (λ (x : SumsAnswer). over (text_of site x) text) q ∙ rw e)
+  module _ {a : SumsAnswer} (h : 24576 ≤ length text) (q : a ≡ site_answer site out) where
+    enough : leb 24576 (length text) ≡ true
+    enough = le-leb 24576 (length text) h
+
+    pub long : {n : ℕ} → n ≡ length (text_of site a) → n ≡ text_length site out text
+    unfolding text_length text_room listing_of
+    long e = e ∙ ap (λ (x : SumsAnswer). length (text_of site x)) q ∙ rw enough
+
+    pub left : {l : List ℕ} → l ≡ over (text_of site a) text → l ≡ text_left site out text
+    unfolding text_left text_room listing_of
+    left e = e ∙ ap (λ (x : SumsAnswer). over (text_of site x) text) q ∙ rw enough
 
   -- a text with room holds the listing, all of it, as far as the length says
   pub whole : {n : ℕ} {left : List ℕ} → n ≡ text_length site out text → left ≡ text_left site out text → 24576 ≤ length text →

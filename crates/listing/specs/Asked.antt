@@ -5,10 +5,13 @@ use Rattle.block_rules.specs.Rules.{block_size}
 use Rattle.outcome.specs.Outcome.{number_of}
 use Rattle.words.specs.Words.{word_at}
 use Rattle.fields.specs.Fields.{decimal_at}
+use Rattle.text.specs.declared.Text.{Text}
+use Rattle.text.specs.Text.{HasRoom}
 use Rattle.guideline_rules.specs.declared.SideGuidelines.{SideGuidelines}
 use Rattle.sum_rules.specs.declared.SumsAnswer.{SumsAnswer}
 use Rattle.site_rules.specs.Blocks.{block_at, header_of}
 use Rattle.site_rules.specs.Passed.{Opened}
+use Rattle.listing_rules.specs.declared.Side.TheVariants.{Risk, Hazard}
 use Rattle.listing_rules.specs.Lines.{lines_of, sum_line}
 use Rattle.listing_rules.specs.Listing.{lines_to}
 
@@ -27,13 +30,13 @@ block_lines_to results (suc n) = block_lines_to results n ++ block_lines (block_
 
 -- the result blocks, then the sums
 abbrev pub block_text : List ℕ → ℕ → SumsAnswer → List ℕ
-block_text results count a = block_lines_to results count ++ sum_line 0 a.risk ++ sum_line 1 a.hazard
+block_text results count a = block_lines_to results count ++ sum_line Risk a.risk ++ sum_line Hazard a.hazard
 
 -- so many blocks behind the first, and room for a whole listing
-pub record Listing (results out : List ℕ) (count : ℕ) : Type 0 where
+pub record Listing (results : List ℕ) (text : Text) (count : ℕ) : Type 0 where
   pub long : block_size * count + block_size ≤ length results
   pub most : count ≤ most_contaminants
-  pub room : 24576 ≤ length out
+  pub room : HasRoom text 24576
 
 -- the result blocks of a site whose header was found: they spell the lines of its contaminants
 pub record Written (site results : List ℕ) : Type 0 where

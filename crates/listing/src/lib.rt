@@ -1,9 +1,9 @@
 // The listing of a site: its guidelines, sums and verdicts as text.
-#![tactic(auto)]
+#![tactic(auto, using(listing_rules::proofs::Lengths::parts, crate::proofs::BlockLines::blocks_most))]
 
 ghost use Rattle.std.specs.Prelude.{◌≡◌, ◌+◌, ◌≤◌, length};
 ghost use Rattle.block_rules.specs.Rules.{block_size};
-ghost use Rattle.words.specs.Bytes.{placed, over};
+ghost use Rattle.text.specs.Text.{put, HasRoom};
 ghost use Rattle.site_rules.specs.Site.{site_answer};
 ghost use Rattle.site_rules.specs.Results.{site_left};
 ghost use Rattle.listing_rules.specs.Listing.{text_of, text_length, text_left};
@@ -11,7 +11,9 @@ ghost use Rattle.listing.specs.Asked.{side_read, block_lines, block_lines_to, bl
 
 use block_rules::BLOCK_SIZE;
 use guideline_rules::SideGuidelines;
+use listing_rules::Side;
 use sum_rules::SumsAnswer;
+use text::Text;
 
 // The answer of the site call, and the listing's length.
 #[derive(Clone, Copy)]
@@ -34,59 +36,54 @@ pub fn get_side(block: &[u8], at: usize) -> SideGuidelines
     }
 }
 
-// The lines that a result block spells, from `at` on.
-fn put_place(block: &[u8], out: &mut [u8], at: usize) -> usize
-    requires { (block_size ≤ length block.now) × (at + 192 ≤ length out.old) }
-    ensures { (result ≡ at + length (block_lines block.now)) × (out.new ≡ placed out.old at (block_lines block.now)) }
+// The lines that a result block spells.
+#[tactic(auto, unfolding(crate::specs::Asked::block_lines))]
+fn put_place(text: &mut Text, block: &[u8])
+    requires { (block_size ≤ length block.now) × HasRoom text.old 192 }
+    ensures { text.new ≡ put text.old (block_lines block.now) }
 {
     let class = words::word(block, 8);
     let id = words::word(block, 12);
     let risk = get_side(block, 16);
     let hazard = get_side(block, 48);
-    lines::put_lines(out, at, class, id, risk, hazard)
+    lines::put_lines(text, class, id, risk, hazard);
 }
 
-// The lines of all result blocks.
-fn put_places(results: &[u8], count: u32, out: &mut [u8]) -> usize
-    requires { Listing results.now out.old count }
-    ensures { (result ≡ length (block_lines_to results.now count)) × (out.new ≡ over (block_lines_to results.now count) out.old) }
+// The lines of all result blocks, which stand behind the first block.
+fn put_places(text: &mut Text, results: &[u8], count: u32)
+    requires { Listing results.now text.old count }
+    ensures { text.new ≡ put text.old (block_lines_to results.now count) }
 {
-    let mut at: usize = 0;
-    let mut k: u32 = 0;
-    while k < count {
-        let place = k + 1;
-        let from = BLOCK_SIZE * (place as usize);
-        let to = from + BLOCK_SIZE;
-        at = put_place(&results[from..to], out, at);
-        k += 1;
+    for block in results[BLOCK_SIZE..]
+        .chunks_exact(BLOCK_SIZE)
+        .take(count as usize)
+    {
+        put_place(text, block);
     }
-    at
 }
 
 // The listing of an accepted site: its result blocks, then the sums.
-fn put_accepted(results: &[u8], count: u32, a: SumsAnswer, out: &mut [u8]) -> usize
-    requires { Listing results.now out.old count }
-    ensures { (result ≡ length (block_text results.now count a)) × (out.new ≡ over (block_text results.now count a) out.old) }
+fn put_accepted(text: &mut Text, results: &[u8], count: u32, a: SumsAnswer)
+    requires { Listing results.now text.old count }
+    ensures { text.new ≡ put text.old (block_text results.now count a) }
 {
-    let risk = a.risk;
-    let hazard = a.hazard;
-    let first = put_places(results, count, out);
-    let second = lines::put_sums(out, first, 0, risk);
-    lines::put_sums(out, second, 1, hazard)
+    put_places(text, results, count);
+    lines::put_sums(text, Side::Risk, a.risk);
+    lines::put_sums(text, Side::Hazard, a.hazard);
 }
 
 // The listing of an answer: a refusal alone, or an accepted site, whose length gives its count.
-fn put_listing(site: &[u8], results: &[u8], a: SumsAnswer, out: &mut [u8]) -> usize
-    requires { Answered site.now results.now a × (24576 ≤ length out.old) }
-    ensures { (result ≡ length (text_of site.now a)) × (out.new ≡ over (text_of site.now a) out.old) }
+fn put_listing(text: &mut Text, site: &[u8], results: &[u8], a: SumsAnswer)
+    requires { Answered site.now results.now a × HasRoom text.old 24576 }
+    ensures { text.new ≡ put text.old (text_of site.now a) }
 {
-    let refusal = a.refusal;
-    let n = outcome::number(refusal);
+    let n = outcome::number(a.refusal);
     if n != 0 {
-        return lines::put_refusal(out, 0, n, a.block);
+        lines::put_refusal(text, n, a.block);
+        return;
     }
     let count = (site.len() / BLOCK_SIZE) as u32 - 1;
-    put_accepted(results, count, a, out)
+    put_accepted(text, results, count, a);
 }
 
 // Evaluates the site into `results` as the site call does, and puts its listing, read from there, at the start of `text`.
@@ -98,6 +95,10 @@ pub fn list_site(site: &[u8], results: &mut [u8], text: &mut [u8]) -> Listed
     if text.len() < 24576 {
         return Listed { answer, length: 0 };
     }
-    let length = put_listing(site, results, answer, text);
-    Listed { answer, length }
+    let mut listing = Text { out: text, at: 0 };
+    put_listing(&mut listing, site, results, answer);
+    Listed {
+        answer,
+        length: listing.at,
+    }
 }

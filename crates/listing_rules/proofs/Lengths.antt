@@ -6,6 +6,8 @@ use native.Mathlib.Omega.{arith}
 use lib.ListN.{length, length-append}
 use Rattle.sum_rules.specs.declared.Verdict.{Verdict}
 use Rattle.sum_rules.specs.declared.Verdict.TheVariants.{Unset, Within, Above, Undecided, NoPathway}
+use Rattle.listing_rules.specs.declared.Side.{Side}
+use Rattle.listing_rules.specs.declared.Side.TheVariants.{Risk, Hazard}
 use Rattle.listing_rules.specs.Lines.{side_word, verdict_word, mark_of, line_of, lines_of, sum_line, refusal_line}
 use mathlib.Core.Bool.{Bool, true, false, cond}
 use lib.Dec.{eqb}
@@ -16,6 +18,7 @@ use Rattle.inputs.specs.declared.Scenario.{Scenario}
 use Rattle.site_rules.specs.Blocks.{record_at, header_of}
 use Rattle.site_rules.specs.Site.{site_answer}
 use Rattle.sum_rules.specs.declared.SideSums.{SideSums}
+use Rattle.text.proofs.Puts.{puts}
 use Rattle.text.proofs.Numbers.{number_most}
 use Rattle.text.proofs.Decimals.{decimal_short}
 use Rattle.listing_rules.specs.Listing.{lines_to, accepted_text, text_of, listing_of}
@@ -25,9 +28,9 @@ use Rattle.site_rules.specs.Passed.{Opened}
 use Rattle.site_rules.proofs.Opened.{count_most}
 use Rattle.site_rules.proofs.Passed.{passed_site}
 
-pub side_most : (side : ℕ) → length (side_word side) ≤ 6
-side_most zero = omega arith
-side_most (suc n) = omega arith
+pub side_most : (side : Side) → length (side_word side) ≤ 6
+side_most Risk = omega arith
+side_most Hazard = omega arith
 
 pub verdict_most : (v : Verdict) → length (verdict_word v) ≤ 9
 verdict_most Unset = omega arith
@@ -36,13 +39,13 @@ verdict_most Above = omega arith
 verdict_most Undecided = omega arith
 verdict_most NoPathway = omega arith
 
-pub line_most : (id side : ℕ) (g : SideGuidelines) → length (line_of id side g) ≤ 96
+pub line_most : (id : ℕ) (side : Side) (g : SideGuidelines) → length (line_of id side g) ≤ 96
 unfolding line_of
 line_most id side g =
     simp length-append
     (omega (arith, number_most id, side_most side, decimal_short 45 g.first, decimal_short 45 g.second, decimal_short 45 g.third, decimal_short 45 g.total))
 
-pub sum_most : (side : ℕ) (t : SideSums) → length (sum_line side t) ≤ 64
+pub sum_most : (side : Side) (t : SideSums) → length (sum_line side t) ≤ 64
 unfolding sum_line
 sum_most side t =
     simp length-append
@@ -56,9 +59,9 @@ pub lines_most : (class id : ℕ) (risk hazard : SideGuidelines) → length (lin
 unfolding lines_of
 lines_most class id risk hazard = cases (eqb class 2)
   where
-    cases : (b : Bool) → length (line_of id 0 risk ++ cond b [] (line_of id 1 hazard)) ≤ 192
-    cases true = simp length-append (omega (arith, line_most id 0 risk))
-    cases false = simp length-append (omega (arith, line_most id 0 risk, line_most id 1 hazard))
+    cases : (b : Bool) → length (line_of id Risk risk ++ cond b [] (line_of id Hazard hazard)) ≤ 192
+    cases true = simp length-append (omega (arith, line_most id Risk risk))
+    cases false = simp length-append (omega (arith, line_most id Risk risk, line_most id Hazard hazard))
 
 -- 192 bytes for each contaminant
 pub lines_to_most : (s : Scenario) (medium : ℕ) (site : List ℕ) (n : ℕ) → length (lines_to s medium site n) ≤ 192 * n
@@ -75,7 +78,7 @@ module _ (site : List ℕ) (a : SumsAnswer) where
   accepted_most o =
       let h = header_of site in
       simp length-append
-      (omega (arith, lines_to_most h.scenario h.medium site h.count, count_most o, sum_most 0 a.risk, sum_most 1 a.hazard))
+      (omega (arith, lines_to_most h.scenario h.medium site h.count, count_most o, sum_most Risk a.risk, sum_most Hazard a.hazard))
 
   text_most : (number_of a.refusal ≡ 0 → Opened site (header_of site)) → length (text_of site a) ≤ 24576
   unfolding text_of
@@ -88,3 +91,6 @@ module _ (site : List ℕ) (a : SumsAnswer) where
 pub listing_most : (site : List ℕ) (out : ℕ) → length (listing_of site out) ≤ 24576
 unfolding listing_of
 listing_most site out = text_most site (site_answer site out) (λ z. (passed_site site out z).opened)
+
+-- what the check has to know of the parts of a line, in order that it finds the proofs of the code alone
+pub ruleset parts = (puts, number_most, decimal_short, side_most, verdict_most, line_most, sum_most)

@@ -1,6 +1,6 @@
 -- The lines of the listing as bytes (docs/SPECIFICATION.md, "Listing"): one space parts the fields, a line feed ends each line.
-use Rattle.std.specs.Prelude.{ℕ, zero, suc, List, [], ◌∷◌, ◌++◌, cond, eqb}
-use Rattle.formulas.specs.Side.{Side, Risk, Hazard}
+use Rattle.std.specs.Prelude.{ℕ, List, [], ◌∷◌, ◌++◌, cond, eqb}
+use Rattle.formulas.specs.Side as formulas
 use Rattle.decimal.specs.declared.Decimal.{Decimal}
 use Rattle.guideline_rules.specs.declared.SideGuidelines.{SideGuidelines}
 use Rattle.sum_rules.specs.declared.Verdict.{Verdict}
@@ -8,15 +8,18 @@ use Rattle.sum_rules.specs.declared.Verdict.TheVariants.{Unset, Within, Above, U
 use Rattle.sum_rules.specs.declared.SideSums.{SideSums}
 use Rattle.text.specs.Numbers.{number_text}
 use Rattle.text.specs.Decimals.{or_else}
+use Rattle.listing_rules.specs.declared.Side.{Side}
+use Rattle.listing_rules.specs.declared.Side.TheVariants.{Risk, Hazard}
+
+-- the side of the rules, as a line names it
+abbrev pub listed : formulas.Side → Side
+listed formulas.Risk = Risk
+listed formulas.Hazard = Hazard
 
 -- risk, hazard
-abbrev pub side_number : Side → ℕ
-side_number Risk = 0
-side_number Hazard = 1
-
-abbrev pub side_word : ℕ → List ℕ
-side_word zero = 114 ∷ (105 ∷ (115 ∷ (107 ∷ [])))
-side_word (suc n) = 104 ∷ (97 ∷ (122 ∷ (97 ∷ (114 ∷ (100 ∷ [])))))
+abbrev pub side_word : Side → List ℕ
+side_word Risk = 114 ∷ (105 ∷ (115 ∷ (107 ∷ [])))
+side_word Hazard = 104 ∷ (97 ∷ (122 ∷ (97 ∷ (114 ∷ (100 ∷ [])))))
 
 -- within, above, undecided, none
 abbrev pub verdict_word : Verdict → List ℕ
@@ -31,12 +34,12 @@ abbrev pub spaced : ℕ → Decimal → List ℕ
 spaced mark d = 32 ∷ or_else mark d
 
 -- id, side, three pathways, total; "-" where absent
-unfoldable pub line_of : ℕ → ℕ → SideGuidelines → List ℕ
+unfoldable pub line_of : ℕ → Side → SideGuidelines → List ℕ
 line_of id side g = number_text id ++ (32 ∷ side_word side) ++ spaced 45 g.first ++ spaced 45 g.second ++ spaced 45 g.third ++ spaced 45 g.total ++ (10 ∷ [])
 
 -- a radionuclide has its risk line only
 unfoldable pub lines_of : ℕ → ℕ → SideGuidelines → SideGuidelines → List ℕ
-lines_of class id risk hazard = line_of id 0 risk ++ cond (eqb class 2) [] (line_of id 1 hazard)
+lines_of class id risk hazard = line_of id Risk risk ++ cond (eqb class 2) [] (line_of id Hazard hazard)
 
 -- a zero sum prints 0; with the verdict none, whose sums are zero, it prints "-"
 abbrev pub mark_of : Verdict → ℕ
@@ -47,13 +50,13 @@ mark_of Above = 48
 mark_of Undecided = 48
 
 -- sum, side, lower, upper, verdict
-unfoldable pub sum_line : ℕ → SideSums → List ℕ
+unfoldable pub sum_line : Side → SideSums → List ℕ
 sum_line side t =
     (115 ∷ (117 ∷ (109 ∷ (32 ∷ [])))) ++ side_word side ++ spaced (mark_of t.verdict) t.lower ++ spaced (mark_of t.verdict) t.upper ++
     (32 ∷ verdict_word t.verdict) ++ (10 ∷ [])
 
 -- "sum SIDE - - none"
-unfoldable pub none_line : ℕ → List ℕ
+unfoldable pub none_line : Side → List ℕ
 none_line side =
     (115 ∷ (117 ∷ (109 ∷ (32 ∷ [])))) ++ side_word side ++ (32 ∷ (45 ∷ (32 ∷ (45 ∷ (32 ∷ (110 ∷ (111 ∷ (110 ∷ (101 ∷ (10 ∷ []))))))))))
 

@@ -7,6 +7,7 @@ use Rattle.guideline_rules.specs.Guideline.{guideline_of}
 use Rattle.sum_rules.specs.declared.SumsAnswer.{SumsAnswer}
 use Rattle.site_rules.specs.Blocks.{header_of, record_at}
 use Rattle.site_rules.specs.Site.{site_answer}
+use Rattle.listing_rules.specs.declared.Side.TheVariants.{Risk, Hazard}
 use Rattle.listing_rules.specs.Lines.{lines_of, sum_line, refusal_line}
 
 -- the lines of the contaminants at the places 1 to n
@@ -18,7 +19,7 @@ lines_to s medium site (suc n) =
 
 -- the contaminants, then the sums
 unfoldable pub accepted_text : List ℕ → SumsAnswer → List ℕ
-accepted_text site a = lines_to (header_of site).scenario (header_of site).medium site (header_of site).count ++ sum_line 0 a.risk ++ sum_line 1 a.hazard
+accepted_text site a = lines_to (header_of site).scenario (header_of site).medium site (header_of site).count ++ sum_line Risk a.risk ++ sum_line Hazard a.hazard
 
 -- a refusal alone
 unfoldable pub text_of : List ℕ → SumsAnswer → List ℕ

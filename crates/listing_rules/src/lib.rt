@@ -1,3 +1,10 @@
-// The listing as text: definitions and theorems, no function.
+// The listing as text: definitions and theorems, and the side that a line names; no function.
 
 #![tactic(auto)]
+
+// The side that a line is of.
+#[derive(Clone, Copy)]
+pub enum Side {
+    Risk,
+    Hazard,
+}

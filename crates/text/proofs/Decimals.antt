@@ -1,6 +1,6 @@
 -- The parts of a decimal's text, and how long it is. Assumes nothing.
 use mathlib.Core.Path.{◌≡◌, refl}
-use mathlib.Core.List.{List, [], ◌∷◌, ◌++◌}
+use mathlib.Core.List.{[], ◌∷◌, ◌++◌}
 use mathlib.Core.Bool.{Bool, true, false, cond}
 use Prim.Native.Nat.{ℕ, ◌-◌, ◌/◌, ◌%◌, ◌≤◌, ◌<◌}
 use native.Mathlib.Nat.{div-div-eq-div-mul}
@@ -12,17 +12,14 @@ use borrow.Author.Tests.{lt-ltb, le-ltb, eq-eqb, ne_eqb, eqb-true, eqb-false}
 use Rattle.decimal.specs.declared.Decimal.{Decimal}
 use Rattle.decimal.specs.Exponent.{raised}
 use Rattle.decimal.proofs.Bias.{raised_bounds}
-use Rattle.text.specs.Numbers.{digit, number_text}
+use Rattle.text.specs.Numbers.{digit, last_digits, number_text}
 use Rattle.text.specs.Decimals.{digits_text, exponent_text, decimal_text, or_else}
-use Rattle.text.proofs.Numbers.{number_short}
+use Rattle.text.proofs.Numbers.{number_one, number_more, number_short, tenth_short, last_none, last_more, last_length}
 
--- ---- the nine digits: the first, a point, and twice four
-abbrev pub four : ℕ → List ℕ
-four n = digit (n / 1000 % 10) ∷ (digit (n / 100 % 10) ∷ (digit (n / 10 % 10) ∷ (digit (n % 10) ∷ [])))
-
-pub digits_parts : (m : ℕ) → (digit (m / 100000000 % 10) ∷ []) ++ (46 ∷ []) ++ four (m / 10000) ++ four m ≡ digits_text m
-unfolding digits_text
-digits_parts m = simp div-div-eq-div-mul
+-- ---- the nine digits: the first, a point, and the last eight
+pub digits_are : (m : ℕ) → digits_text m ≡ digit (m / 100000000 % 10) ∷ (46 ∷ last_digits 8 m)
+unfolding digits_text last_digits
+digits_are m = simp div-div-eq-div-mul
 
 pub digits_length : (m : ℕ) → length (digits_text m) ≡ 10
 unfolding digits_text
@@ -72,6 +69,5 @@ decimal_short mark d = cases (eqb d.m 0)
     cases true = omega arith
     cases false = simp length-append (omega (arith, digits_length d.m, exponent_short (raised d.e) (raised_small d.e)))
 
--- as much as `put_decimal` asks for is enough
-pub decimal_most : (mark : ℕ) (d : Decimal) → length (or_else mark d) ≤ 22
-decimal_most mark d = omega (arith, decimal_short mark d)
+-- what the check has to know of the texts, in order that it finds the proofs of the functions alone
+pub ruleset decimals = (number_one, number_more, tenth_short, last_none, last_more, last_length, digits_are, exponent_below, exponent_above, digits_length, decimal_zero, decimal_other)

@@ -1,14 +1,15 @@
 -- The digits of a number: the last digit stands behind those of the tenth, and how many there are. Assumes nothing.
-use mathlib.Core.Path.{◌≡◌, sym, ap, ◌∙◌}
+use mathlib.Core.Path.{◌≡◌, refl, sym, ap, ◌∙◌}
 use mathlib.Core.List.{List, [], ◌∷◌, ◌++◌}
 use mathlib.Core.Bool.{Bool, true, false, cond}
-use Prim.Native.Nat.{ℕ, zero, suc, ◌*◌, ◌^◌, ◌/◌, ◌%◌, ◌≤◌, ◌<◌}
+use Prim.Native.Nat.{ℕ, zero, suc, ◌-◌, ◌*◌, ◌^◌, ◌/◌, ◌%◌, ◌≤◌, ◌<◌}
 use native.Mathlib.Nat.{pow-suc}
+use native.Mathlib.Numerals.{sub-one}
 use native.Mathlib.Omega.{arith}
 use lib.ListN.{length, length-append}
 use lib.Dec.{ltb}
 use borrow.Author.Tests.{lt-ltb, le-ltb}
-use Rattle.text.specs.Numbers.{digit, digits_of, number_text}
+use Rattle.text.specs.Numbers.{digit, digits_of, number_text, last_digits}
 
 -- a tenth has a digit less
 tenth : (k n : ℕ) → n < 10 ^ suc k → n / 10 < 10 ^ k
@@ -65,3 +66,22 @@ digits_short (suc k) (suc m) n h = last_most (ltb n 10) n (suc k) (digits_of m (
 pub number_short : (k n : ℕ) → n < 10 ^ suc k → length (number_text n) ≤ suc k
 unfolding number_text
 number_short k n h = digits_short k 10 n h
+
+-- the tenth of a number of 32 bits leaves room for one more
+pub tenth_short : (n : ℕ) → n < 10000000000 → length (number_text (n / 10)) ≤ 9
+tenth_short n h = number_short 8 (n / 10) (omega arith)
+
+-- ---- the last digits
+pub last_none : (k n : ℕ) → k ≡ 0 → last_digits k n ≡ []
+unfolding last_digits
+last_none k n e = rw e
+
+pub last_more : (k n : ℕ) → 0 < k → last_digits k n ≡ last_digits (k - 1) (n / 10) ++ (digit (n % 10) ∷ [])
+unfolding last_digits
+last_more zero n h = absurd (omega arith)
+last_more (suc k) n h = simp sub-one
+
+pub last_length : (k n : ℕ) → length (last_digits k n) ≡ k
+unfolding last_digits
+last_length zero n = refl
+last_length (suc k) n = simp (length-append, last_length k (n / 10)) (omega arith)

@@ -13,3 +13,8 @@ digits_of (suc most) n = cond (ltb n 10) (digit n ∷ []) (digits_of most (n / 1
 -- a number of 32 bits has at most ten
 unfoldable pub number_text : ℕ → List ℕ
 number_text n = digits_of 10 n
+
+-- the last digits of n, so many, with leading zeros
+unfoldable pub last_digits : ℕ → ℕ → List ℕ
+last_digits zero n = []
+last_digits (suc k) n = last_digits k (n / 10) ++ (digit (n % 10) ∷ [])

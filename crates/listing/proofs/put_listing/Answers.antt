@@ -1,17 +1,12 @@
--- `listing::put_listing`: a refusal's line alone, or the lines of the result blocks that were written. Assumes nothing.
+-- A refusal's line alone, or the lines of the result blocks that were written. Assumes nothing.
 use Rattle.std.proofs.Common.{length, sym, ◌∙◌, arith}
 use Rattle.site_rules.proofs.RightLength.{right_length}
 use Rattle.site_rules.proofs.Opened.{site_long, count_most}
-use Rattle.listing_rules.specs.Lines.{refusal_line}
-use Rattle.listing.proofs.Progress.{wrote_first, wrote_of, wrote_all}
 use Rattle.listing.proofs.Listings.{accepted_parts, count_is, text_refused, text_accepted}
 use Rattle.listing.proofs.put_listing.Goals as goal
 
 pub returns-then-n-ne0 : goal.returns-then-n-ne0
-returns-then-n-ne0 c =
-    let a = c.args in
-    let n = c.number-n.result in
-    wrote_all (text_refused a.site.now a.a n c.number-n.ensures c.if-n-ne0.true) (wrote_first a.out.now (refusal_line n a.a.block) c.put_refusal.ensures)
+returns-then-n-ne0 c = rw (← text_refused c.args.site.now c.args.a c.number-n.result c.number-n.ensures c.if-n-ne0.true) c.put_refusal.ensures
 
 pub overflow_cast-count : goal.overflow_cast-count
 overflow_cast-count c =
@@ -30,6 +25,5 @@ put_accepted-requires c =
 
 pub returns : goal.returns
 returns c =
-    let a = c.args in
     let z = sym c.number-n.ensures ∙ c.if-n-ne0.false in
-    wrote_all (accepted_parts a.a (c.requires.0.written z) ∙ text_accepted a.site.now a.a z) (wrote_of _ c.put_accepted.ensures)
+    rw (← text_accepted c.args.site.now c.args.a z, ← accepted_parts c.args.a (c.requires.0.written z)) c.put_accepted.ensures
