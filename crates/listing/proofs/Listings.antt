@@ -1,5 +1,5 @@
 -- The listing of an answer: a refusal alone, or the lines of the site whose header was found; and how long it is at most. Assumes nothing.
-use mathlib.Core.Path.{◌≡◌, sym, ap, subst, ◌∙◌}
+use mathlib.Core.Path.{◌≡◌, refl, sym, ap, subst, ◌∙◌}
 use mathlib.Core.Bool.{Bool, true, false, cond}
 use mathlib.Core.List.{List, ◌++◌}
 use Prim.Native.Nat.{ℕ, ◌-◌, ◌/◌, ◌≤◌, ◌<◌}
@@ -8,9 +8,11 @@ use lib.Dec.{leb}
 use lib.ListN.{length, get_or, take, drop, length-append}
 use lib.Seq.{take-append_seam}
 use borrow.Author.Tests.{eq-eqb, ne_eqb, le-leb, lt-leb}
-use Rattle.outcome.specs.Outcome.{number_of}
+use Rattle.std.specs.Prelude.{Result, Ok, Err}
+use Rattle.outcome.specs.declared.Refused.{Refused}
+use Rattle.outcome.specs.Outcome.{refusal_number, number_of}
 use Rattle.words.specs.Bytes.{over}
-use Rattle.sum_rules.specs.declared.SumsAnswer.{SumsAnswer}
+use Rattle.sum_rules.specs.declared.Sums.{Sums}
 use Rattle.site_rules.specs.Blocks.{header_of}
 use Rattle.site_rules.specs.Site.{site_answer}
 use Rattle.site_rules.specs.Results.{site_left}
@@ -22,10 +24,10 @@ use Rattle.listing.specs.Asked.{block_text, Written, Answered}
 use Rattle.listing.proofs.ResultLines.{written}
 
 -- ---- an accepted answer has written its result blocks
-accepted_by : (site : List ℕ) (out : ℕ) {a : SumsAnswer} → a ≡ site_answer site out → number_of a.refusal ≡ 0 → number_of (site_answer site out).refusal ≡ 0
-accepted_by site out e z = ap (λ (x : SumsAnswer). number_of x.refusal) (sym e) ∙ z
+accepted_by : (site : List ℕ) (out : ℕ) {a : Result Sums Refused} → a ≡ site_answer site out → number_of a ≡ 0 → number_of (site_answer site out) ≡ 0
+accepted_by site out e z = ap (λ (x : Result Sums Refused). number_of x) (sym e) ∙ z
 
-pub answered : (site out : List ℕ) (a : SumsAnswer) (results : List ℕ) → ((i : ℕ) → get_or site i 0 < 256) → a ≡ site_answer site (length out) → results ≡ site_left site out → Answered site results a
+pub answered : (site out : List ℕ) (a : Result Sums Refused) (results : List ℕ) → ((i : ℕ) → get_or site i 0 < 256) → a ≡ site_answer site (length out) → results ≡ site_left site out → Answered site results a
 answered site out a results byte e f = record { written = λ z. subst (Written site) (sym f) (written site out (accepted_by site (length out) e z) byte) }
 
 -- ---- the text of an answer
@@ -33,20 +35,18 @@ answered site out a results byte e f = record { written = λ z. subst (Written s
 pub count_is : {site results : List ℕ} → Written site results → length site / 512 - 1 ≡ (header_of site).count
 count_is w = omega (arith, site_long w.opened)
 
-pub accepted_parts : {site results : List ℕ} (a : SumsAnswer) → Written site results → block_text results (length site / 512 - 1) a ≡ accepted_text site a
+pub accepted_parts : {site results : List ℕ} (a : Sums) → Written site results → block_text results (length site / 512 - 1) a ≡ accepted_text site a
 unfolding accepted_text
 accepted_parts {site} {results} a w =
     ap (λ (k : ℕ). block_text results k a) (count_is w) ∙ ap (λ (l : List ℕ). l ++ sum_line Risk a.risk ++ sum_line Hazard a.hazard) w.lines
 
-pub text_refused : (site : List ℕ) (a : SumsAnswer) (n : ℕ) → n ≡ number_of a.refusal → (n ≡ 0 → ⊥) → refusal_line n a.block ≡ text_of site a
+pub text_refused : (site : List ℕ) {a : Result Sums Refused} {r : Refused} {n : ℕ} → a ≡ Err r → n ≡ refusal_number r.refusal → refusal_line n r.block ≡ text_of site a
 unfolding text_of
-text_refused site a n e h =
-    ap (λ (k : ℕ). refusal_line k a.block) e
-    ∙ sym (ap (λ (b : Bool). cond b (accepted_text site a) (refusal_line (number_of a.refusal) a.block)) (ne_eqb (number_of a.refusal) 0 (λ q. h (e ∙ q))))
+text_refused site e k = rw (e, k) refl
 
-pub text_accepted : (site : List ℕ) (a : SumsAnswer) → number_of a.refusal ≡ 0 → accepted_text site a ≡ text_of site a
+pub text_accepted : (site : List ℕ) {a : Result Sums Refused} {b : Sums} → a ≡ Ok b → accepted_text site b ≡ text_of site a
 unfolding text_of
-text_accepted site a z = sym (ap (λ (b : Bool). cond b (accepted_text site a) (refusal_line (number_of a.refusal) a.block)) (eq-eqb (number_of a.refusal) 0 z))
+text_accepted site e = rw e refl
 
 -- ---- the text left, by its room
 module _ (site : List ℕ) (out : ℕ) (text : List ℕ) where
@@ -56,17 +56,17 @@ module _ (site : List ℕ) (out : ℕ) (text : List ℕ) where
       let e : leb 24576 (length text) ≡ false = lt-leb 24576 (length text) h in
       (rw e, rw e)
 
-  module _ {a : SumsAnswer} (h : 24576 ≤ length text) (q : a ≡ site_answer site out) where
+  module _ {a : Result Sums Refused} (h : 24576 ≤ length text) (q : a ≡ site_answer site out) where
     enough : leb 24576 (length text) ≡ true
     enough = le-leb 24576 (length text) h
 
     pub long : {n : ℕ} → n ≡ length (text_of site a) → n ≡ text_length site out text
     unfolding text_length text_room listing_of
-    long e = e ∙ ap (λ (x : SumsAnswer). length (text_of site x)) q ∙ rw enough
+    long e = e ∙ ap (λ (x : Result Sums Refused). length (text_of site x)) q ∙ rw enough
 
     pub left : {l : List ℕ} → l ≡ over (text_of site a) text → l ≡ text_left site out text
     unfolding text_left text_room listing_of
-    left e = e ∙ ap (λ (x : SumsAnswer). over (text_of site x) text) q ∙ rw enough
+    left e = e ∙ ap (λ (x : Result Sums Refused). over (text_of site x) text) q ∙ rw enough
 
   -- a text with room holds the listing, all of it, as far as the length says
   pub whole : {n : ℕ} {left : List ℕ} → n ≡ text_length site out text → left ≡ text_left site out text → 24576 ≤ length text →

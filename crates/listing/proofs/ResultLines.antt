@@ -14,7 +14,7 @@ use Rattle.words.proofs.Parts.{word_part}
 use Rattle.fields.specs.Fields.{decimals_at}
 use Rattle.block_rules.specs.Reading.{contaminant_at}
 use Rattle.guideline_rules.specs.declared.SideGuidelines.{SideGuidelines}
-use Rattle.guideline_rules.specs.Guideline.{guideline_of}
+use Rattle.guideline_rules.specs.Guideline.{guidelines_sent, guideline_of}
 use Rattle.block_rules.proofs.ResultsBack.{ResultRead}
 use Rattle.site_rules.proofs.ReadBack.{site_result_back}
 use Rattle.site_rules.specs.Blocks.{block_at, header_of, record_at}
@@ -35,7 +35,7 @@ block_spells x h = λ i.
     (record { first = get_or (x.decimals i) 4 zero_of; second = get_or (x.decimals i) 5 zero_of; third = get_or (x.decimals i) 6 zero_of; total = get_or (x.decimals i) 7 zero_of })
 
 -- ---- an accepted site, given as bytes
-module _ (site out : List ℕ) (z : number_of (site_answer site (length out)).refusal ≡ 0) (byte : (i : ℕ) → get_or site i 0 < 256) where
+module _ (site out : List ℕ) (z : number_of (site_answer site (length out)) ≡ 0) (byte : (i : ℕ) → get_or site i 0 < 256) where
   abbrev s : Scenario
   s = (header_of site).scenario
 
@@ -54,7 +54,7 @@ module _ (site out : List ℕ) (z : number_of (site_answer site (length out)).re
 
   module _ (k : ℕ) (first : 1 ≤ k) (last : k ≤ (header_of site).count) where
     place_spells : block_lines (block_at (site_left site out) k)
-        ≡ lines_of (record_at site k).class (record_at site k).id (guideline_of s medium (record_at site k)).risk (guideline_of s medium (record_at site k)).hazard
+        ≡ lines_of (record_at site k).class (record_at site k).id (guidelines_sent (guideline_of s medium (record_at site k))).risk (guidelines_sent (guideline_of s medium (record_at site k))).hazard
     place_spells = block_spells (site_result_back site out z k first last) (id_word k)
 
   lines_read : (n : ℕ) → n ≤ (header_of site).count → block_lines_to (site_left site out) n ≡ lines_to s medium site n

@@ -1,14 +1,15 @@
 -- What the functions of the listing ask, and the lines that result blocks spell.
-use Rattle.std.specs.Prelude.{◌≡◌, List, [], ◌++◌, ℕ, zero, suc, ◌+◌, ◌*◌, ◌≤◌, length}
+use Rattle.std.specs.Prelude.{◌≡◌, List, [], ◌++◌, ℕ, zero, suc, ◌+◌, ◌*◌, ◌≤◌, length, Result}
 use Rattle.inputs.specs.Rules.{most_contaminants}
 use Rattle.block_rules.specs.Rules.{block_size}
+use Rattle.outcome.specs.declared.Refused.{Refused}
 use Rattle.outcome.specs.Outcome.{number_of}
 use Rattle.words.specs.Words.{word_at}
 use Rattle.fields.specs.Fields.{decimal_at}
 use Rattle.text.specs.declared.Text.{Text}
 use Rattle.text.specs.Text.{HasRoom}
 use Rattle.guideline_rules.specs.declared.SideGuidelines.{SideGuidelines}
-use Rattle.sum_rules.specs.declared.SumsAnswer.{SumsAnswer}
+use Rattle.sum_rules.specs.declared.Sums.{Sums}
 use Rattle.site_rules.specs.Blocks.{block_at, header_of}
 use Rattle.site_rules.specs.Passed.{Opened}
 use Rattle.listing_rules.specs.declared.Side.TheVariants.{Risk, Hazard}
@@ -29,7 +30,7 @@ block_lines_to results zero = []
 block_lines_to results (suc n) = block_lines_to results n ++ block_lines (block_at results (suc n))
 
 -- the result blocks, then the sums
-abbrev pub block_text : List ℕ → ℕ → SumsAnswer → List ℕ
+abbrev pub block_text : List ℕ → ℕ → Sums → List ℕ
 block_text results count a = block_lines_to results count ++ sum_line Risk a.risk ++ sum_line Hazard a.hazard
 
 -- so many blocks behind the first, and room for a whole listing
@@ -45,5 +46,5 @@ pub record Written (site results : List ℕ) : Type 0 where
   pub lines : block_lines_to results (header_of site).count ≡ lines_to (header_of site).scenario (header_of site).medium site (header_of site).count
 
 -- an answer of the site call: an accepted one has written them
-pub record Answered (site results : List ℕ) (a : SumsAnswer) : Type 0 where
-  pub written : number_of a.refusal ≡ 0 → Written site results
+pub record Answered (site results : List ℕ) (a : Result Sums Refused) : Type 0 where
+  pub written : number_of a ≡ 0 → Written site results

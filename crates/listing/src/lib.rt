@@ -12,13 +12,14 @@ ghost use Rattle.listing.specs.Asked.{side_read, block_lines, block_lines_to, bl
 use block_rules::BLOCK_SIZE;
 use guideline_rules::SideGuidelines;
 use listing_rules::Side;
-use sum_rules::SumsAnswer;
+use outcome::Refused;
+use sum_rules::Sums;
 use text::Text;
 
 // The answer of the site call, and the listing's length.
 #[derive(Clone, Copy)]
 pub struct Listed {
-    pub answer: SumsAnswer,
+    pub answer: Result<Sums, Refused>,
     pub length: usize,
 }
 
@@ -63,7 +64,7 @@ fn put_places(text: &mut Text, results: &[u8], count: u32)
 }
 
 // The listing of an accepted site: its result blocks, then the sums.
-fn put_accepted(text: &mut Text, results: &[u8], count: u32, a: SumsAnswer)
+fn put_accepted(text: &mut Text, results: &[u8], count: u32, a: Sums)
     requires { Listing results.now text.old count }
     ensures { text.new ≡ put text.old (block_text results.now count a) }
 {
@@ -73,17 +74,17 @@ fn put_accepted(text: &mut Text, results: &[u8], count: u32, a: SumsAnswer)
 }
 
 // The listing of an answer: a refusal alone, or an accepted site, whose length gives its count.
-fn put_listing(text: &mut Text, site: &[u8], results: &[u8], a: SumsAnswer)
+fn put_listing(text: &mut Text, site: &[u8], results: &[u8], a: Result<Sums, Refused>)
     requires { Answered site.now results.now a × HasRoom text.old 24576 }
     ensures { text.new ≡ put text.old (text_of site.now a) }
 {
-    let n = outcome::number(a.refusal);
-    if n != 0 {
-        lines::put_refusal(text, n, a.block);
-        return;
+    match a {
+        Err(refused) => lines::put_refusal(text, u32::from(refused.refusal), refused.block),
+        Ok(sums) => {
+            let count = (site.len() / BLOCK_SIZE) as u32 - 1;
+            put_accepted(text, results, count, sums);
+        }
     }
-    let count = (site.len() / BLOCK_SIZE) as u32 - 1;
-    put_accepted(text, results, count, a);
 }
 
 // Evaluates the site into `results` as the site call does, and puts its listing, read from there, at the start of `text`.

@@ -5,7 +5,7 @@ use Prim.Native.Nat.{ℕ, zero, suc, ◌≤◌, ◌*◌}
 use native.Mathlib.Omega.{arith}
 use lib.ListN.{length, length-append}
 use Rattle.sum_rules.specs.declared.Verdict.{Verdict}
-use Rattle.sum_rules.specs.declared.Verdict.TheVariants.{Unset, Within, Above, Undecided, NoPathway}
+use Rattle.sum_rules.specs.declared.Verdict.TheVariants.{Within, Above, Undecided, NoPathway}
 use Rattle.listing_rules.specs.declared.Side.{Side}
 use Rattle.listing_rules.specs.declared.Side.TheVariants.{Risk, Hazard}
 use Rattle.listing_rules.specs.Lines.{side_word, verdict_word, mark_of, line_of, lines_of, sum_line, refusal_line}
@@ -13,7 +13,7 @@ use mathlib.Core.Bool.{Bool, true, false, cond}
 use lib.Dec.{eqb}
 use borrow.Author.Tests.{eqb-true}
 use Rattle.guideline_rules.specs.declared.SideGuidelines.{SideGuidelines}
-use Rattle.guideline_rules.specs.Guideline.{guideline_of}
+use Rattle.guideline_rules.specs.Guideline.{guidelines_sent, guideline_of}
 use Rattle.inputs.specs.declared.Scenario.{Scenario}
 use Rattle.site_rules.specs.Blocks.{record_at, header_of}
 use Rattle.site_rules.specs.Site.{site_answer}
@@ -22,8 +22,10 @@ use Rattle.text.proofs.Puts.{puts}
 use Rattle.text.proofs.Numbers.{number_most}
 use Rattle.text.proofs.Decimals.{decimal_short}
 use Rattle.listing_rules.specs.Listing.{lines_to, accepted_text, text_of, listing_of}
-use Rattle.outcome.specs.Outcome.{number_of}
-use Rattle.sum_rules.specs.declared.SumsAnswer.{SumsAnswer}
+use Rattle.std.specs.Prelude.{Result, Ok, Err}
+use Rattle.outcome.specs.declared.Refused.{Refused}
+use Rattle.outcome.specs.Outcome.{refusal_number, number_of}
+use Rattle.sum_rules.specs.declared.Sums.{Sums}
 use Rattle.site_rules.specs.Passed.{Opened}
 use Rattle.site_rules.proofs.Opened.{count_most}
 use Rattle.site_rules.proofs.Passed.{passed_site}
@@ -33,7 +35,6 @@ side_most Risk = omega arith
 side_most Hazard = omega arith
 
 pub verdict_most : (v : Verdict) → length (verdict_word v) ≤ 9
-verdict_most Unset = omega arith
 verdict_most Within = omega arith
 verdict_most Above = omega arith
 verdict_most Undecided = omega arith
@@ -69,24 +70,21 @@ unfolding lines_to
 lines_to_most s medium site zero = omega arith
 lines_to_most s medium site (suc n) =
     let r = record_at site (suc n) in
-    simp length-append (omega (arith, lines_to_most s medium site n, lines_most r.class r.id (guideline_of s medium r).risk (guideline_of s medium r).hazard))
+    simp length-append (omega (arith, lines_to_most s medium site n, lines_most r.class r.id (guidelines_sent (guideline_of s medium r)).risk (guidelines_sent (guideline_of s medium r)).hazard))
 
 -- ---- no listing is longer than the text that `list_site` asks for
-module _ (site : List ℕ) (a : SumsAnswer) where
-  accepted_most : Opened site (header_of site) → length (accepted_text site a) ≤ 24576
+module _ (site : List ℕ) where
+  accepted_most : (a : Sums) → Opened site (header_of site) → length (accepted_text site a) ≤ 24576
   unfolding accepted_text
-  accepted_most o =
+  accepted_most a o =
       let h = header_of site in
       simp length-append
       (omega (arith, lines_to_most h.scenario h.medium site h.count, count_most o, sum_most Risk a.risk, sum_most Hazard a.hazard))
 
-  text_most : (number_of a.refusal ≡ 0 → Opened site (header_of site)) → length (text_of site a) ≤ 24576
+  text_most : (a : Result Sums Refused) → (number_of a ≡ 0 → Opened site (header_of site)) → length (text_of site a) ≤ 24576
   unfolding text_of
-  text_most w = cases (eqb (number_of a.refusal) 0) refl
-    where
-      cases : (b : Bool) → eqb (number_of a.refusal) 0 ≡ b → length (cond b (accepted_text site a) (refusal_line (number_of a.refusal) a.block)) ≤ 24576
-      cases true e = accepted_most (w (eqb-true (number_of a.refusal) 0 e))
-      cases false e = omega (arith, refusal_most (number_of a.refusal) a.block)
+  text_most (Ok a) w = accepted_most a (w refl)
+  text_most (Err r) w = omega (arith, refusal_most (refusal_number r.refusal) r.block)
 
 pub listing_most : (site : List ℕ) (out : ℕ) → length (listing_of site out) ≤ 24576
 unfolding listing_of

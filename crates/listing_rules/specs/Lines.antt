@@ -4,7 +4,7 @@ use Rattle.formulas.specs.Side as formulas
 use Rattle.decimal.specs.declared.Decimal.{Decimal}
 use Rattle.guideline_rules.specs.declared.SideGuidelines.{SideGuidelines}
 use Rattle.sum_rules.specs.declared.Verdict.{Verdict}
-use Rattle.sum_rules.specs.declared.Verdict.TheVariants.{Unset, Within, Above, Undecided, NoPathway}
+use Rattle.sum_rules.specs.declared.Verdict.TheVariants.{Within, Above, Undecided, NoPathway}
 use Rattle.sum_rules.specs.declared.SideSums.{SideSums}
 use Rattle.text.specs.Numbers.{number_text}
 use Rattle.text.specs.Decimals.{or_else}
@@ -23,7 +23,6 @@ side_word Hazard = 104 ∷ (97 ∷ (122 ∷ (97 ∷ (114 ∷ (100 ∷ [])))))
 
 -- within, above, undecided, none
 abbrev pub verdict_word : Verdict → List ℕ
-verdict_word Unset = []
 verdict_word Within = 119 ∷ (105 ∷ (116 ∷ (104 ∷ (105 ∷ (110 ∷ [])))))
 verdict_word Above = 97 ∷ (98 ∷ (111 ∷ (118 ∷ (101 ∷ []))))
 verdict_word Undecided = 117 ∷ (110 ∷ (100 ∷ (101 ∷ (99 ∷ (105 ∷ (100 ∷ (101 ∷ (100 ∷ []))))))))
@@ -44,7 +43,6 @@ lines_of class id risk hazard = line_of id Risk risk ++ cond (eqb class 2) [] (l
 -- a zero sum prints 0; with the verdict none, whose sums are zero, it prints "-"
 abbrev pub mark_of : Verdict → ℕ
 mark_of NoPathway = 45
-mark_of Unset = 48
 mark_of Within = 48
 mark_of Above = 48
 mark_of Undecided = 48

@@ -1,10 +1,11 @@
 -- The listing of a site, with an output of so many bytes for its result blocks.
-use Rattle.std.specs.Prelude.{ℕ, zero, suc, List, [], ◌++◌, Bool, cond, eqb, leb, length}
-use Rattle.outcome.specs.Outcome.{number_of}
+use Rattle.std.specs.Prelude.{ℕ, zero, suc, List, [], ◌++◌, Bool, cond, leb, length, Result, Ok, Err}
+use Rattle.outcome.specs.declared.Refused.{Refused}
+use Rattle.outcome.specs.Outcome.{refusal_number}
 use Rattle.inputs.specs.declared.Scenario.{Scenario}
 use Rattle.words.specs.Bytes.{over}
-use Rattle.guideline_rules.specs.Guideline.{guideline_of}
-use Rattle.sum_rules.specs.declared.SumsAnswer.{SumsAnswer}
+use Rattle.guideline_rules.specs.Guideline.{guidelines_sent, guideline_of}
+use Rattle.sum_rules.specs.declared.Sums.{Sums}
 use Rattle.site_rules.specs.Blocks.{header_of, record_at}
 use Rattle.site_rules.specs.Site.{site_answer}
 use Rattle.listing_rules.specs.declared.Side.TheVariants.{Risk, Hazard}
@@ -15,15 +16,17 @@ unfoldable pub lines_to : Scenario → ℕ → List ℕ → ℕ → List ℕ
 lines_to s medium site zero = []
 lines_to s medium site (suc n) =
     lines_to s medium site n ++
-    lines_of (record_at site (suc n)).class (record_at site (suc n)).id (guideline_of s medium (record_at site (suc n))).risk (guideline_of s medium (record_at site (suc n))).hazard
+    lines_of (record_at site (suc n)).class (record_at site (suc n)).id
+    (guidelines_sent (guideline_of s medium (record_at site (suc n)))).risk (guidelines_sent (guideline_of s medium (record_at site (suc n)))).hazard
 
 -- the contaminants, then the sums
-unfoldable pub accepted_text : List ℕ → SumsAnswer → List ℕ
+unfoldable pub accepted_text : List ℕ → Sums → List ℕ
 accepted_text site a = lines_to (header_of site).scenario (header_of site).medium site (header_of site).count ++ sum_line Risk a.risk ++ sum_line Hazard a.hazard
 
 -- a refusal alone
-unfoldable pub text_of : List ℕ → SumsAnswer → List ℕ
-text_of site a = cond (eqb (number_of a.refusal) 0) (accepted_text site a) (refusal_line (number_of a.refusal) a.block)
+unfoldable pub text_of : List ℕ → Result Sums Refused → List ℕ
+text_of site (Ok a) = accepted_text site a
+text_of site (Err r) = refusal_line (refusal_number r.refusal) r.block
 
 unfoldable pub listing_of : List ℕ → ℕ → List ℕ
 listing_of site out = text_of site (site_answer site out)

@@ -20,13 +20,12 @@ pub fn put_side(text: &mut Text, side: Side)
     }
 }
 
-// The word of a verdict. A refused call has no verdict, and no word.
+// The word of a verdict.
 pub fn put_verdict(text: &mut Text, v: Verdict)
     requires { HasRoom text.old 9 }
     ensures { text.new ≡ put text.old (verdict_word v) }
 {
     match v {
-        Verdict::Unset => text.put_word(b""),
         Verdict::Within => text.put_word(b"within"),
         Verdict::Above => text.put_word(b"above"),
         Verdict::Undecided => text.put_word(b"undecided"),
@@ -39,7 +38,7 @@ pub fn mark_of(v: Verdict) -> u8
     ensures { result ≡ mark_of v }
 {
     match v {
-        Verdict::Unset | Verdict::Within | Verdict::Above | Verdict::Undecided => b'0',
+        Verdict::Within | Verdict::Above | Verdict::Undecided => b'0',
         Verdict::NoPathway => b'-',
     }
 }
