@@ -10,7 +10,8 @@ ghost use Rattle.gv_rules.specs.Exports.{word_of, packed, header_from, contamina
 use block_rules::{Header, STRUCT_SIZE};
 use guideline_rules::SideGuidelines;
 use inputs::{Contaminant, Scenario};
-use sum_rules::SumsAnswer;
+use outcome::Refused;
+use sum_rules::Sums;
 
 // The header in a struct gv_header. A struct of another form stands for one that keeps no rule.
 pub fn header_from(header: &[u8]) -> Header
@@ -60,18 +61,17 @@ pub fn word_of(number: u32, block: u32, risk: u32, hazard: u32) -> u64
 }
 
 // The word of an answer of the site call.
-pub fn pack(a: SumsAnswer) -> u64
+#[tactic(auto, unfolding(gv_rules::specs::Exports::packed))]
+pub fn pack(a: Result<Sums, Refused>) -> u64
     ensures { result ≡ packed a }
 {
-    let refusal = a.refusal;
-    let r = a.risk;
-    let h = a.hazard;
-    let risk = r.verdict;
-    let hazard = h.verdict;
-    word_of(
-        outcome::number(refusal),
-        a.block,
-        sums::verdict_number(risk),
-        sums::verdict_number(hazard),
-    )
+    match a {
+        Ok(both) => word_of(
+            0,
+            0,
+            sums::verdict_number(both.risk.verdict),
+            sums::verdict_number(both.hazard.verdict),
+        ),
+        Err(refused) => word_of(u32::from(refused.refusal), refused.block, 0, 0),
+    }
 }

@@ -4,13 +4,14 @@
 
 ghost use Rattle.std.specs.Prelude.{◌≡◌, length};
 ghost use Rattle.outcome.specs.Outcome.{number_of};
-ghost use Rattle.block_rules.specs.Answers.{header_refusal, header_left, contaminant_refusal, contaminant_left};
+ghost use Rattle.block_rules.specs.Answers.{header_answer, header_left, contaminant_answer, contaminant_left};
 ghost use Rattle.site_rules.specs.Site.{site_answer};
 ghost use Rattle.site_rules.specs.Results.{site_left};
 ghost use Rattle.listing_rules.specs.Listing.{text_length, text_left};
-ghost use Rattle.gv_rules.specs.Exports.{packed, header_from, contaminant_from, guideline_sent, guideline_word, guideline_put, built_in_sent, built_in_put};
+ghost use Rattle.gv_rules.specs.Exports.{packed, header_from, contaminant_from, with_room, guideline_sent, guideline_word, guideline_put, built_in_sent, built_in_put};
 
-use outcome::Refusal;
+use guideline_rules::Guidelines;
+use outcome::{Refusal, Refused};
 
 // Evaluates a site: see include/gv.h.
 pub fn gv_site(site: &[u8], out: &mut [u8]) -> u64
@@ -27,51 +28,46 @@ pub fn gv_list(site: &[u8], out: &mut [u8], text: &mut [u8]) -> u64
     listed.length as u64
 }
 
+// The eight guidelines of an accepted answer, in the first 64 bytes lent; last 10 where fewer are lent.
+fn put_answer(own: Result<Guidelines, Refused>, out: &mut [u8]) -> Result<Guidelines, Refused>
+    ensures { (result ≡ with_room (length out.old) own) × (out.new ≡ guideline_put result out.old) }
+{
+    let g = own?;
+    if out.len() < 64 {
+        return Err(Refusal::Room.in_block(0));
+    }
+    c_structs::put_guidelines(out, g.risk, g.hazard);
+    Ok(g)
+}
+
 // The single guideline of a struct gv_header, whose count is not looked at, and a struct gv_contaminant: see include/gv.h.
 pub fn gv_guideline(header: &[u8], contaminant: &[u8], out: &mut [u8]) -> u64
     ensures { (result ≡ guideline_word (guideline_sent header.now contaminant.now (length out.old))) × (out.new ≡ guideline_put (guideline_sent header.now contaminant.now (length out.old)) out.old) }
 {
     let h = c_structs::header_from(header);
     let r = c_structs::contaminant_from(contaminant);
-    let a = one_contaminant::single(h, r);
-    let refusal = a.refusal;
-    if !outcome::accepted(refusal) {
-        return c_structs::word_of(outcome::number(refusal), a.block, 0, 0);
-    }
-    if out.len() < 64 {
-        return c_structs::word_of(outcome::number(Refusal::Room), 0, 0, 0);
-    }
-    let risk = a.risk;
-    let hazard = a.hazard;
-    c_structs::put_guidelines(out, risk, hazard);
-    c_structs::word_of(outcome::number(refusal), a.block, 0, 0)
+    let a = put_answer(one_contaminant::single(h, r), out);
+    c_structs::word_of(outcome::number(a), outcome::block(a), 0, 0)
 }
 
 // Writes a header block from a struct gv_header.
 pub fn gv_write_header(out: &mut [u8], header: &[u8]) -> u32
-    ensures { (result ≡ number_of (header_refusal (length out.old) (header_from header.now))) × (out.new ≡ header_left out.old (header_from header.now)) }
+    ensures { (result ≡ number_of (header_answer (length out.old) (header_from header.now))) × (out.new ≡ header_left out.old (header_from header.now)) }
 {
-    let h = c_structs::header_from(header);
-    let a = writers::write_header(out, h);
-    let refusal = a.refusal;
-    outcome::number(refusal)
+    outcome::number(writers::write_header(out, c_structs::header_from(header)))
 }
 
 // Writes a contaminant block from a struct gv_contaminant.
 pub fn gv_write_contaminant(out: &mut [u8], place: u32, contaminant: &[u8]) -> u32
-    ensures { (result ≡ number_of (contaminant_refusal (length out.old) place (contaminant_from contaminant.now))) × (out.new ≡ contaminant_left out.old place (contaminant_from contaminant.now)) }
+    ensures { (result ≡ number_of (contaminant_answer (length out.old) place (contaminant_from contaminant.now))) × (out.new ≡ contaminant_left out.old place (contaminant_from contaminant.now)) }
 {
     let r = c_structs::contaminant_from(contaminant);
-    let a = writers::write_contaminant(out, place, r);
-    let refusal = a.refusal;
-    outcome::number(refusal)
+    outcome::number(writers::write_contaminant(out, place, r))
 }
 
 // Writes the header block of a built-in scenario.
 pub fn gv_write_built_in(out: &mut [u8], number: u32, medium: u32, count: u32) -> u32
     ensures { (result ≡ number_of (built_in_sent (length out.old) number medium count)) × (out.new ≡ built_in_put out.old number medium count) }
 {
-    let a = writers::write_built_in(out, number, medium, count);
-    let refusal = a.refusal;
-    outcome::number(refusal)
+    outcome::number(writers::write_built_in(out, number, medium, count))
 }

@@ -3,7 +3,7 @@
 
 ghost use Rattle.std.specs.Prelude.{◌≡◌, length};
 ghost use Rattle.outcome.specs.Outcome.{number_of};
-ghost use Rattle.block_rules.specs.Answers.{header_refusal, header_left, contaminant_refusal, contaminant_left};
+ghost use Rattle.block_rules.specs.Answers.{header_answer, header_left, contaminant_answer, contaminant_left};
 ghost use Rattle.site_rules.specs.Site.{site_answer};
 ghost use Rattle.site_rules.specs.Results.{site_left};
 ghost use Rattle.listing_rules.specs.Listing.{text_length, text_left};
@@ -36,7 +36,7 @@ pub extern "C" fn gv_guideline(header: &[u8], contaminant: &[u8], out: &mut [u8]
 // Writes a header block from a struct gv_header.
 #[unsafe(no_mangle)]
 pub extern "C" fn gv_write_header(out: &mut [u8], header: &[u8]) -> u32
-    ensures { (result ≡ number_of (header_refusal (length out.old) (header_from header.now))) × (out.new ≡ header_left out.old (header_from header.now)) }
+    ensures { (result ≡ number_of (header_answer (length out.old) (header_from header.now))) × (out.new ≡ header_left out.old (header_from header.now)) }
 {
     gv::gv_write_header(out, header)
 }
@@ -44,7 +44,7 @@ pub extern "C" fn gv_write_header(out: &mut [u8], header: &[u8]) -> u32
 // Writes a contaminant block from a struct gv_contaminant.
 #[unsafe(no_mangle)]
 pub extern "C" fn gv_write_contaminant(out: &mut [u8], place: u32, contaminant: &[u8]) -> u32
-    ensures { (result ≡ number_of (contaminant_refusal (length out.old) place (contaminant_from contaminant.now))) × (out.new ≡ contaminant_left out.old place (contaminant_from contaminant.now)) }
+    ensures { (result ≡ number_of (contaminant_answer (length out.old) place (contaminant_from contaminant.now))) × (out.new ≡ contaminant_left out.old place (contaminant_from contaminant.now)) }
 {
     gv::gv_write_contaminant(out, place, contaminant)
 }

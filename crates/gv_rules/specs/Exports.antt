@@ -1,28 +1,31 @@
 -- What the functions of the C library return and leave, over the definitions of the calls behind them.
-use Rattle.std.specs.Prelude.{ℕ, ◌+◌, ◌*◌, ◌/◌, ◌%◌, ◌≡◌, List, Bool, cond, ◌&&◌, eqb, ltb, length}
-use Rattle.outcome.specs.declared.Refusal.{Refusal}
+use Rattle.std.specs.Prelude.{ℕ, ◌+◌, ◌*◌, ◌/◌, ◌%◌, ◌≡◌, List, Bool, cond, ◌&&◌, eqb, ltb, length, Result, Ok, Err, ⊤}
+use Rattle.outcome.specs.declared.Refused.{Refused}
 use Rattle.outcome.specs.declared.Refusal.TheVariants.{Room}
-use Rattle.outcome.specs.Outcome.{number_of}
+use Rattle.outcome.specs.Outcome.{refused, number_of, block_of}
+use Rattle.words.specs.Bytes.{over}
+use Rattle.inputs.specs.declared.Scenario.{Scenario}
 use Rattle.inputs.specs.declared.Contaminant.{Contaminant}
 use Rattle.inputs.specs.BuiltIn.{no_contaminant, built_in_of}
 use Rattle.fields.specs.Fields.{field_bytes}
 use Rattle.block_rules.specs.declared.Header.{Header}
 use Rattle.block_rules.specs.Rules.{struct_size}
 use Rattle.block_rules.specs.Reading.{no_header, header_at, header_unused, contaminant_at, contaminant_unused}
-use Rattle.block_rules.specs.Layouts.{header_block, guideline_decimals}
-use Rattle.block_rules.specs.Answers.{header_refusal, left_by}
-use Rattle.guideline_rules.specs.declared.GuidelineAnswer.{GuidelineAnswer}
-use Rattle.guideline_rules.specs.Guideline.{guideline_of, refused}
-use Rattle.sum_rules.specs.declared.SumsAnswer.{SumsAnswer}
-use Rattle.sum_rules.specs.Verdict.{verdict_number}
+use Rattle.block_rules.specs.Layouts.{guideline_decimals}
+use Rattle.block_rules.specs.Answers.{header_answer, header_left}
+use Rattle.formulas.specs.Side.{Risk, Hazard}
+use Rattle.guideline_rules.specs.declared.Guidelines.{Guidelines}
+use Rattle.guideline_rules.specs.Guideline.{guideline_of}
+use Rattle.sum_rules.specs.declared.Sums.{Sums}
+use Rattle.sum_rules.specs.Promise.{side_sent}
 
 -- ---- the word that comes back
 -- the refusal number in bits 0 to 7, the block in 8 to 15, the verdicts of risk and hazard in 16 to 23 and 24 to 31
 unfoldable pub word_of : ℕ → ℕ → ℕ → ℕ → ℕ
 word_of number block risk hazard = number + 256 * block + 65536 * risk + 16777216 * hazard
 
-unfoldable pub packed : SumsAnswer → ℕ
-packed a = word_of (number_of a.refusal) a.block (verdict_number a.risk.verdict) (verdict_number a.hazard.verdict)
+unfoldable pub packed : Result Sums Refused → ℕ
+packed a = word_of (number_of a) (block_of a) (side_sent a Risk).verdict (side_sent a Hazard).verdict
 
 -- the four parts come back out of the word
 pub record Unpacked (word number block risk hazard : ℕ) : Type 0 where
@@ -46,28 +49,35 @@ unfoldable pub contaminant_from : List ℕ → Contaminant
 contaminant_from l = cond (contaminant_form l) (contaminant_at l 0) no_contaminant
 
 -- ---- the single guideline: the refusals of the call, and last 10 where fewer than 64 bytes are lent
-unfoldable pub guideline_sent : List ℕ → List ℕ → ℕ → GuidelineAnswer
-guideline_sent header contaminant room = cond (eqb (number_of own.refusal) 0) (cond (ltb room 64) (refused Room 0) own) own
-  where
-    own : GuidelineAnswer
-    own = guideline_of (header_from header).scenario (header_from header).medium (contaminant_from contaminant)
+abbrev pub with_room : ℕ → Result Guidelines Refused → Result Guidelines Refused
+with_room room (Ok g) = cond (ltb room 64) (refused Room 0) (Ok g)
+with_room room (Err r) = Err r
 
-unfoldable pub guideline_word : GuidelineAnswer → ℕ
-guideline_word a = word_of (number_of a.refusal) a.block 0 0
+unfoldable pub guideline_sent : List ℕ → List ℕ → ℕ → Result Guidelines Refused
+guideline_sent header contaminant room = with_room room (guideline_of (header_from header).scenario (header_from header).medium (contaminant_from contaminant))
+
+unfoldable pub guideline_word : Result Guidelines Refused → ℕ
+guideline_word a = word_of (number_of a) (block_of a) 0 0
 
 -- the eight decimals in the first 64 bytes, or nothing
-unfoldable pub guideline_put : GuidelineAnswer → List ℕ → List ℕ
-guideline_put a out = left_by a.refusal (field_bytes (guideline_decimals a.risk a.hazard)) out
+unfoldable pub guideline_put : Result Guidelines Refused → List ℕ → List ℕ
+guideline_put (Ok g) out = over (field_bytes (guideline_decimals g.risk g.hazard)) out
+guideline_put (Err r) out = out
 
 -- ---- the header of a built-in scenario: refusal 11, then the writer's own
-abbrev pub built_in_header : ℕ → ℕ → ℕ → Header
-built_in_header number medium count = record { medium = medium; count = count; scenario = (built_in_of number).scenario }
+abbrev pub header_with : ℕ → ℕ → Scenario → Header
+header_with medium count s = record { medium = medium; count = count; scenario = s }
 
-unfoldable pub built_in_sent : ℕ → ℕ → ℕ → ℕ → Refusal
-built_in_sent room number medium count =
-    cond (eqb (number_of (built_in_of number).refusal) 0)
-    (header_refusal room (built_in_header number medium count))
-    (built_in_of number).refusal
+abbrev pub sent_with : ℕ → ℕ → ℕ → Result Scenario Refused → Result ⊤ Refused
+sent_with room medium count (Ok s) = header_answer room (header_with medium count s)
+sent_with room medium count (Err r) = Err r
+
+abbrev pub put_with : List ℕ → ℕ → ℕ → Result Scenario Refused → List ℕ
+put_with out medium count (Ok s) = header_left out (header_with medium count s)
+put_with out medium count (Err r) = out
+
+unfoldable pub built_in_sent : ℕ → ℕ → ℕ → ℕ → Result ⊤ Refused
+built_in_sent room number medium count = sent_with room medium count (built_in_of number)
 
 unfoldable pub built_in_put : List ℕ → ℕ → ℕ → ℕ → List ℕ
-built_in_put out number medium count = left_by (built_in_sent (length out) number medium count) (header_block (built_in_header number medium count)) out
+built_in_put out number medium count = put_with out medium count (built_in_of number)

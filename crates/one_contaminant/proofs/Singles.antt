@@ -4,15 +4,16 @@ use mathlib.Core.Bool.{Bool, true, false, cond, not}
 use mathlib.Core.List.{List, [], ◌∷◌, ◌++◌, append-nil}
 use Prim.Native.Nat.{ℕ, ◌<◌}
 use native.Mathlib.Omega.{arith}
-use lib.Dec.{eqb}
 use lib.ListN.{length, get_or, take, drop, length-append, length-drop}
 use lib.Seq.{length-take-le}
-use borrow.Author.Tests.{eqb-true, eqb-false, ne_eqb}
 use Rattle.outcome.specs.declared.Refusal.{Refusal}
-use Rattle.outcome.specs.declared.Refusal.TheVariants.{Accepted, Field}
+use Rattle.outcome.specs.declared.Refusal.TheVariants.{Field}
 use Rattle.decimal.specs.Decimal.{zero_of}
-use Rattle.outcome.specs.declared.Answer.{Answer}
-use Rattle.outcome.specs.Outcome.{number_of, answer}
+use Rattle.std.specs.Prelude.{Result, Ok, Err, ⊤}
+use Rattle.outcome.specs.declared.Refused.{Refused}
+use Rattle.outcome.specs.Outcome.{number_of, refused, concerning, located, answered, passing}
+use Rattle.outcome.proofs.Numbers.{not_both}
+use Rattle.outcome.proofs.Tests.{tests_refused, reader_value, refused_told}
 use Rattle.inputs.specs.declared.Contaminant.{Contaminant}
 use Rattle.inputs.specs.Rules.{lacks_factor, contaminant_fits, scenario_refusal}
 use Rattle.words.specs.Bytes.{over}
@@ -20,11 +21,10 @@ use Rattle.words.proofs.Written.{over_length, over_all, lent_part}
 use Rattle.fields.specs.Fields.{decimals_at}
 use Rattle.words.specs.Words.{part_of}
 use Rattle.guideline_rules.specs.declared.SideGuidelines.{SideGuidelines}
-use Rattle.guideline_rules.specs.declared.GuidelineAnswer.{GuidelineAnswer}
-use Rattle.guideline_rules.specs.Guideline.{guideline_of, refused}
+use Rattle.guideline_rules.specs.declared.Guidelines.{Guidelines}
+use Rattle.guideline_rules.specs.Guideline.{guideline_of, worked_out, guidelines_sent}
 use Rattle.guideline_rules.proofs.Accepted.{scenario_passed}
-use Rattle.guideline_rules.proofs.Refused.{refused_is}
-use Rattle.sum_rules.specs.declared.SumsAnswer.{SumsAnswer}
+use Rattle.sum_rules.specs.declared.Sums.{Sums}
 use Rattle.block_rules.specs.declared.Header.{Header}
 use Rattle.block_rules.specs.Rules.{in_file}
 use Rattle.block_rules.specs.Layouts.{header_block, contaminant_block}
@@ -38,7 +38,7 @@ use Rattle.site_rules.specs.Results.{site_left}
 use Rattle.site_rules.proofs.SingleSite.{single_answer, single_result}
 use Rattle.listing.specs.Asked.{side_read}
 use Rattle.site_rules.specs.Written.{blocks_from, site_of}
-use Rattle.one_contaminant.specs.Single.{one_of, Written, Single}
+use Rattle.one_contaminant.specs.Single.{one_of, Written}
 
 module _ (h : Header) (r : Contaminant) where
   -- ---- the header: 4, then 6, in block 0
@@ -46,125 +46,138 @@ module _ (h : Header) (r : Contaminant) where
   unfolding header_refusal in_file scenario_refusal
   header_tests_lem = refl
 
-  pub header_sent : (n : Refusal) → n ≡ header_refusal 1024 (one_of h) → (number_of n ≡ 0 → ⊥) → guideline_of h.scenario h.medium r ≡ refused n 0
+  header_sent : {e : Refused} → located (header_refusal 1024 (one_of h)) 0 ≡ Err e → guideline_of h.scenario h.medium r ≡ Err e
   unfolding guideline_of
-  header_sent n e z = let same = sym (e ∙ header_tests_lem) in rw (same, ne_eqb (number_of n) 0 z)
+  header_sent e = tests_refused header_tests_lem 0 _ e
 
-  pub header_kept : (n : Refusal) → n ≡ header_refusal 1024 (one_of h) → number_of n ≡ 0 → (header_fit (one_of h) ≡ true) × (lacks_factor h.scenario ≡ false)
+  header_kept : header_refusal 1024 (one_of h) ≡ Ok tt → (header_fit (one_of h) ≡ true) × (lacks_factor h.scenario ≡ false)
   unfolding header_fit in_file
-  header_kept n e z = let p = scenario_passed h.scenario h.medium (sym (ap number_of (e ∙ header_tests_lem)) ∙ z) in (p.fits, p.factors)
+  header_kept e = let p = scenario_passed h.scenario h.medium (sym header_tests_lem ∙ e) in (p.fits, p.factors)
 
   -- ---- the contaminant: 4, in block 1
+  abbrev tested : Bool → Result ⊤ Refusal
+  tested b = cond (not b) (Err Field) (Ok tt)
+
   module _ (fit : header_fit (one_of h) ≡ true) (known : lacks_factor h.scenario ≡ false) where
-    scenario_kept : scenario_refusal h.scenario h.medium ≡ Accepted
+    scenario_kept : scenario_refusal h.scenario h.medium ≡ Ok tt
     unfolding header_fit in_file scenario_refusal
     scenario_kept = simp (fit, known)
 
-    record_cases : (n : Refusal) (b : Bool) → contaminant_fits r ≡ b → n ≡ cond (not b) Field Accepted → (number_of n ≡ 0 → ⊥) → guideline_of h.scenario h.medium r ≡ refused n 1
+    record_cases : (b : Bool) → contaminant_fits r ≡ b → {n : Refusal} → tested b ≡ Err n → guideline_of h.scenario h.medium r ≡ refused n 1
     unfolding guideline_of
-    record_cases n false f q z = rw (scenario_kept, f) (ap (λ (x : Refusal). refused x 1) (sym q))
-    record_cases n true f q z = absurd (z (ap number_of q))
+    record_cases false f {n} q = rw (scenario_kept, f) (ap (λ (x : Result ⊤ Refusal). Err (refused_told (concerning n 1) (located x 1))) q)
+    record_cases true f q = absurd (not_both q)
 
-    pub record_sent : (n : Refusal) → n ≡ contaminant_refusal 512 1 r → (number_of n ≡ 0 → ⊥) → guideline_of h.scenario h.medium r ≡ refused n 1
+    record_sent : {n : Refusal} → contaminant_refusal 512 1 r ≡ Err n → guideline_of h.scenario h.medium r ≡ refused n 1
     unfolding contaminant_refusal contaminant_fit in_file
-    record_sent n e = record_cases n (contaminant_fits r) refl e
+    record_sent = record_cases (contaminant_fits r) refl
 
-  record_good : (n : Refusal) (b : Bool) → n ≡ cond (not b) Field Accepted → number_of n ≡ 0 → b ≡ true
-  record_good n true q z = refl
-  record_good n false q z = absurd (omega (arith, sym z ∙ ap number_of q))
+  record_good : (b : Bool) → tested b ≡ Ok tt → b ≡ true
+  record_good true q = refl
+  record_good false q = absurd (not_both (sym q))
 
-  pub record_kept : (n : Refusal) → n ≡ contaminant_refusal 512 1 r → number_of n ≡ 0 → contaminant_fits r ≡ true
+  record_kept : contaminant_refusal 512 1 r ≡ Ok tt → contaminant_fits r ≡ true
   unfolding contaminant_refusal contaminant_fit in_file
-  record_kept n e = record_good n (contaminant_fits r) e
+  record_kept = record_good (contaminant_fits r)
 
   -- ---- the bytes d, then l with the header, then those with the contaminant's y in its part
   module _ (d : List ℕ) (long : length d ≡ 1024) where
-    -- what the writer of the header sent back
-    module _ {a : Answer} (e : a ≡ header_answer (length d) (one_of h)) where
-      first_is : a.refusal ≡ header_refusal 1024 (one_of h)
-      first_is = ap (λ (x : Answer). x.refusal) e ∙ ap (λ (n : ℕ). header_refusal n (one_of h)) long
+    first_is : (x : Result ⊤ Refused) → x ≡ header_answer (length d) (one_of h) → located (header_refusal 1024 (one_of h)) 0 ≡ x
+    first_is x e = ap (λ (n : ℕ). located (header_refusal n (one_of h)) 0) (sym long) ∙ sym e
 
-      pub single_header : (eqb (number_of a.refusal) 0 ≡ false) → (site : List ℕ) → Single h r (answer a.refusal 0) site
-      single_header f site =
-          let no = eqb-false (number_of a.refusal) 0 f in
-          record { written = λ z. absurd (no z); sent = λ z. header_sent a.refusal first_is no }
+    -- the header is refused
+    pub single_header : {e : Refused} → Err e ≡ header_answer (length d) (one_of h) → guideline_of h.scenario h.medium r ≡ Err e
+    single_header {e} q = header_sent (first_is (Err e) q)
 
-      module _ (f : eqb (number_of a.refusal) 0 ≡ true) {l : List ℕ} (w : l ≡ header_left d (one_of h)) where
-        good : (header_fit (one_of h) ≡ true) × (lacks_factor h.scenario ≡ false)
-        good = header_kept a.refusal first_is (eqb-true (number_of a.refusal) 0 f)
+    -- or it was written
+    module _ {u : ⊤} (q : Ok u ≡ header_answer (length d) (one_of h)) {l : List ℕ} (w : l ≡ header_left d (one_of h)) where
+      passed : header_refusal 1024 (one_of h) ≡ Ok u
+      passed = reader_value (header_refusal 1024 (one_of h)) 0 (first_is (Ok u) q)
 
-        first_left : l ≡ over (header_block (one_of h)) d
-        unfolding header_left left_by
-        first_left = w ∙ rw (long, ← first_is, f)
+      good : (header_fit (one_of h) ≡ true) × (lacks_factor h.scenario ≡ false)
+      good = header_kept passed
 
-        part_long : length (take 512 (drop 512 l)) ≡ 512
-        part_long =
-            let n = ap length first_left ∙ over_length (header_block (one_of h)) d (omega (arith, header_length (one_of h))) in
-            length-take-le 512 (drop 512 l) (simp length-drop (omega arith))
+      first_left : l ≡ over (header_block (one_of h)) d
+      unfolding header_left left_by
+      first_left = w ∙ rw (long, passed) refl
 
-        -- what the writer of the contaminant sent back, and left
-        module _ {b : Answer} (g : b ≡ contaminant_answer (length (take 512 (drop 512 l))) 1 r) where
-          second_is : b.refusal ≡ contaminant_refusal 512 1 r
-          second_is = ap (λ (x : Answer). x.refusal) g ∙ ap (λ (n : ℕ). contaminant_refusal n 1 r) part_long
+      part_long : length (take 512 (drop 512 l)) ≡ 512
+      part_long =
+          let n = ap length first_left ∙ over_length (header_block (one_of h)) d (omega (arith, header_length (one_of h))) in
+          length-take-le 512 (drop 512 l) (simp length-drop (omega arith))
 
-          pub single_record : (eqb (number_of b.refusal) 0 ≡ false) → (site : List ℕ) → Single h r (answer b.refusal 1) site
-          single_record k site =
-              let no = eqb-false (number_of b.refusal) 0 k in
-              record { written = λ z. absurd (no z); sent = λ z. record_sent good.0 good.1 b.refusal second_is no }
+      second_is : (x : Result ⊤ Refused) → x ≡ contaminant_answer (length (take 512 (drop 512 l))) 1 r → located (contaminant_refusal 512 1 r) 0 ≡ x
+      second_is x e = ap (λ (n : ℕ). located (contaminant_refusal n 1 r) 0) (sym part_long) ∙ sym e
 
-          pub single_both : (eqb (number_of b.refusal) 0 ≡ true) → (y : List ℕ) → y ≡ contaminant_left (take 512 (drop 512 l)) 1 r →
-              Single h r (answer b.refusal 0) (take 512 l ++ (y ++ drop 512 (drop 512 l)))
-          unfolding contaminant_left left_by site_of blocks_from
-          single_both k y v =
-              let p = header_block (one_of h) in
-              let c = contaminant_block 1 r in
-              let both : length (p ++ c) ≡ 1024 = length-append p c ∙ omega (arith, header_length (one_of h), contaminant_length 1 r) in
-              let x : y ≡ over c (take 512 (drop 512 (over p d))) = v ∙ rw (part_long, ← second_is, k, first_left) in
-              let is : take 512 l ++ (y ++ drop 512 (drop 512 l)) ≡ p ++ (c ++ []) =
-              rw first_left (lent_part p c d y 512 1024 (header_length (one_of h)) (contaminant_length 1 r) (omega arith) (omega arith) x) ∙
-              over_all (p ++ c) d (long ∙ sym both) ∙ ap (λ (q : List ℕ). p ++ q) (sym (append-nil c)) in
-              record {
-                written = λ z. record { is = is; header = good.0; known = good.1; fits = record_kept b.refusal second_is z };
-                sent = λ z. absurd (z (eqb-true (number_of b.refusal) 0 k));
-              }
+      -- the contaminant is refused
+      pub single_record : {e : Refused} → Err e ≡ contaminant_answer (length (take 512 (drop 512 l))) 1 r → guideline_of h.scenario h.medium r ≡ refused e.refusal 1
+      single_record {e} g = by (contaminant_refusal 512 1 r) refl (second_is (Err e) g)
+        where
+          by : (x : Result ⊤ Refusal) → contaminant_refusal 512 1 r ≡ x → located x 0 ≡ Err e → guideline_of h.scenario h.medium r ≡ refused e.refusal 1
+          by (Ok v) p q = absurd (not_both q)
+          by (Err n) p q =
+              record_sent good.0 good.1 p ∙ ap (λ (x : Result ⊤ Refused). refused (refused_told e x).refusal 1) q
+
+      -- or both were
+      pub single_both : {v : ⊤} → Ok v ≡ contaminant_answer (length (take 512 (drop 512 l))) 1 r → {y : List ℕ} → y ≡ contaminant_left (take 512 (drop 512 l)) 1 r →
+          Written h r (take 512 l ++ (y ++ drop 512 (drop 512 l)))
+      unfolding contaminant_left left_by site_of blocks_from
+      single_both {v} g {y} m =
+          let second = reader_value (contaminant_refusal 512 1 r) 0 (second_is (Ok v) g) in
+          let p = header_block (one_of h) in
+          let c = contaminant_block 1 r in
+          let both : length (p ++ c) ≡ 1024 = length-append p c ∙ omega (arith, header_length (one_of h), contaminant_length 1 r) in
+          let x : y ≡ over c (take 512 (drop 512 (over p d))) = m ∙ rw (part_long, second, first_left) refl in
+          let is : take 512 l ++ (y ++ drop 512 (drop 512 l)) ≡ p ++ (c ++ []) =
+          rw first_left (lent_part p c d y 512 1024 (header_length (one_of h)) (contaminant_length 1 r) (omega arith) (omega arith) x) ∙
+          over_all (p ++ c) d (long ∙ sym both) ∙ ap (λ (q : List ℕ). p ++ q) (sym (append-nil c)) in
+          record { is = is; header = good.0; known = good.1; fits = record_kept second }
 
 -- ---- what the site call makes of it
-module _ {h : Header} {r : Contaminant} {site : List ℕ} (w : Written h r site) (small : r.id < 4294967296) (d : List ℕ) (long : length d ≡ 1024) {b : SumsAnswer} (e : b ≡ site_answer site (length d)) where
-  abbrev own : GuidelineAnswer
+module _ {h : Header} {r : Contaminant} {site : List ℕ} (w : Written h r site) (small : r.id < 4294967296) (d : List ℕ) (long : length d ≡ 1024) {b : Result Sums Refused} (e : b ≡ site_answer site (length d)) where
+  abbrev own : Result Guidelines Refused
   own = guideline_of h.scenario h.medium r
 
   abbrev single : List ℕ
   single = site_of (one_of h) (r ∷ [])
 
-  same : answer b.refusal b.block ≡ answer own.refusal own.block
+  same : answered b ≡ answered own
   same =
-      ap (λ (a : SumsAnswer). answer a.refusal a.block) (e ∙ ap (λ (l : List ℕ). site_answer l (length d)) w.is) ∙
+      ap answered (e ∙ ap (λ (l : List ℕ). site_answer l (length d)) w.is) ∙
       single_answer (one_of h) r w.header w.known refl w.fits small (length d) (omega (arith, long))
 
-  same_refusal : b.refusal ≡ own.refusal
-  same_refusal = ap (λ (a : Answer). a.refusal) same
+  -- the same refusal
+  pub evaluated_refused : {x : Refused} → b ≡ Err x → own ≡ Err x
+  evaluated_refused {x} f = by own (sym same ∙ ap answered f)
+    where
+      by : (y : Result Guidelines Refused) → answered y ≡ Err x → y ≡ Err x
+      by (Ok g) q = absurd (not_both q)
+      by (Err n) q = ap (λ (z : Result ⊤ Refused). Err (refused_told x z)) q
 
-  pub evaluated_refused : eqb (number_of b.refusal) 0 ≡ false → refused b.refusal b.block ≡ own
-  evaluated_refused f =
-      let no = eqb-false (number_of b.refusal) 0 f in
-      ap (λ (a : Answer). refused a.refusal a.block) same ∙ sym (refused_is h.scenario h.medium r (λ z. no (ap number_of same_refusal ∙ z)))
-
-  module _ (f : eqb (number_of b.refusal) 0 ≡ true) {results : List ℕ} (left : results ≡ site_left site d) where
-    there : number_of (site_answer single (length d)).refusal ≡ 0
-    there = ap (λ (l : List ℕ). number_of (site_answer l (length d)).refusal) (sym w.is) ∙ ap (λ (a : SumsAnswer). number_of a.refusal) (sym e) ∙ eqb-true (number_of b.refusal) 0 f
+  module _ {a : Sums} (f : b ≡ Ok a) {results : List ℕ} (left : results ≡ site_left site d) where
+    there : number_of (site_answer single (length d)) ≡ 0
+    there = ap (λ (l : List ℕ). number_of (site_answer l (length d))) (sym w.is) ∙ ap number_of (sym e ∙ f)
 
     block : List ℕ
     block = take 512 (drop 512 results)
 
-    read : ResultRead block 1 r.class r.id own.risk own.hazard
+    read : ResultRead block 1 r.class r.id (guidelines_sent own).risk (guidelines_sent own).hazard
     unfolding block block_at part_of
     read = rw (left, w.is) (single_result (one_of h) r w.header w.known refl w.fits small d there)
 
+    -- the single guideline is accepted too, with what stands in the result block
+    own_kept : Ok (guidelines_sent own) ≡ own
+    own_kept = by own (sym same ∙ ap answered f)
+      where
+        by : (y : Result Guidelines Refused) → answered y ≡ Ok tt → Ok (guidelines_sent y) ≡ y
+        by (Ok g) q = refl
+        by (Err n) q = absurd (not_both (sym q))
+
     pub evaluated_accepted : {risk hazard : SideGuidelines} → risk ≡ side_read (take 512 (drop 512 results)) 16 → hazard ≡ side_read (take 512 (drop 512 results)) 48 →
-        record { refusal = b.refusal; block = b.block; risk = risk; hazard = hazard } ≡ own
+        Ok (record { risk = risk; hazard = hazard }) ≡ own
     unfolding block side_read decimals_at
     evaluated_accepted p q =
         let x = read.decimals in
         let first = p ∙ (λ i. record { first = get_or (x i) 0 zero_of; second = get_or (x i) 1 zero_of; third = get_or (x i) 2 zero_of; total = get_or (x i) 3 zero_of }) in
         let second = q ∙ (λ i. record { first = get_or (x i) 4 zero_of; second = get_or (x i) 5 zero_of; third = get_or (x i) 6 zero_of; total = get_or (x i) 7 zero_of }) in
-        λ i. record { refusal = (same i).refusal; block = (same i).block; risk = first i; hazard = second i }
+        (λ i. Ok (record { risk = first i; hazard = second i })) ∙ own_kept

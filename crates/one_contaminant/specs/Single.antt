@@ -1,10 +1,9 @@
 -- A site of one contaminant, by which the single guideline of the C library is worked out: what its writing promises.
-use Rattle.std.specs.Prelude.{◌≡◌, true, false, List, [], ◌∷◌, ℕ}
-use Rattle.outcome.specs.declared.Answer.{Answer}
-use Rattle.outcome.specs.Outcome.{number_of}
+use Rattle.std.specs.Prelude.{◌≡◌, true, false, List, [], ◌∷◌, ℕ, Result, Err, ⊤, MatchResult}
+use Rattle.outcome.specs.declared.Refused.{Refused}
 use Rattle.inputs.specs.declared.Contaminant.{Contaminant}
 use Rattle.inputs.specs.Rules.{lacks_factor, contaminant_fits}
-use Rattle.guideline_rules.specs.Guideline.{guideline_of, refused}
+use Rattle.guideline_rules.specs.Guideline.{guideline_of}
 use Rattle.block_rules.specs.declared.Header.{Header}
 use Rattle.block_rules.specs.Answers.{header_fit}
 use Rattle.site_rules.specs.Written.{site_of}
@@ -21,6 +20,5 @@ pub record Written (h : Header) (r : Contaminant) (site : List ℕ) : Type 0 whe
   pub fits : contaminant_fits r ≡ true
 
 -- it was written, or the refusal is that of the single guideline
-pub record Single (h : Header) (r : Contaminant) (a : Answer) (site : List ℕ) : Type 0 where
-  pub written : number_of a.refusal ≡ 0 → Written h r site
-  pub sent : (number_of a.refusal ≡ 0 → ⊥) → guideline_of h.scenario h.medium r ≡ refused a.refusal a.block
+abbrev pub Single : Header → Contaminant → Result ⊤ Refused → List ℕ → Type 0
+Single h r x site = MatchResult x (λ (u : ⊤). Written h r site) (λ (e : Refused). guideline_of h.scenario h.medium r ≡ Err e)

@@ -6,12 +6,12 @@ ghost use Rattle.guideline_rules.specs.Guideline.{guideline_of};
 ghost use Rattle.one_contaminant.specs.Single.{Single};
 
 use block_rules::Header;
-use guideline_rules::GuidelineAnswer;
+use guideline_rules::Guidelines;
 use inputs::Contaminant;
-use outcome::Answer;
+use outcome::Refused;
 
 // Writes the site of one contaminant; or the refusal of the header in block 0, of the contaminant in block 1.
-fn write_single(site: &mut [u8], h: Header, r: Contaminant) -> Answer
+fn write_single(site: &mut [u8], h: Header, r: Contaminant) -> Result<(), Refused>
     requires { length site.old ≡ 1024 }
     ensures { Single h r result site.new }
 {
@@ -21,52 +21,24 @@ fn write_single(site: &mut [u8], h: Header, r: Contaminant) -> Answer
         count: 1,
         scenario,
     };
-    let a = writers::write_header(site, one);
-    let first = a.refusal;
-    if !outcome::accepted(first) {
-        return Answer {
-            refusal: first,
-            block: 0,
-        };
-    }
-    let b = writers::write_contaminant(&mut site[512..1024], 1, r);
-    let second = b.refusal;
-    if !outcome::accepted(second) {
-        return Answer {
-            refusal: second,
-            block: 1,
-        };
-    }
-    Answer {
-        refusal: second,
-        block: 0,
+    writers::write_header(site, one)?;
+    match writers::write_contaminant(&mut site[512..1024], 1, r) {
+        Ok(()) => Ok(()),
+        Err(refused) => Err(refused.refusal.in_block(1)),
     }
 }
 
 // The single guideline, worked out by the site call on a site of one contaminant: a second way to the terms in this library
 // would cost the site call its speed (docs/SPEED.md).
-pub fn single(h: Header, r: Contaminant) -> GuidelineAnswer
+pub fn single(h: Header, r: Contaminant) -> Result<Guidelines, Refused>
     requires { r.id < 4294967296 }
     ensures { result ≡ guideline_of h.scenario h.medium r }
 {
     let mut site = [0u8; 1024];
-    let a = write_single(&mut site, h, r);
-    let refusal = a.refusal;
-    if !outcome::accepted(refusal) {
-        return guideline::refused(refusal, a.block);
-    }
+    write_single(&mut site, h, r)?;
     let mut results = [0u8; 1024];
-    let b = site::evaluate(&site, &mut results);
-    let sent = b.refusal;
-    if !outcome::accepted(sent) {
-        return guideline::refused(sent, b.block);
-    }
+    site::evaluate(&site, &mut results)?;
     let risk = listing::get_side(&results[512..1024], 16);
     let hazard = listing::get_side(&results[512..1024], 48);
-    GuidelineAnswer {
-        refusal: sent,
-        block: b.block,
-        risk,
-        hazard,
-    }
+    Ok(Guidelines { risk, hazard })
 }

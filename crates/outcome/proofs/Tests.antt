@@ -43,7 +43,7 @@ pub handed_back : {A : Type 0} (x : Result A Refused) {r : Refused} → IsErrAnd
 handed_back (Ok a) h = absurd h
 handed_back (Err e) h = ap Err h
 
-abbrev refused_told : {A : Type 0} → Refused → Result A Refused → Refused
+abbrev pub refused_told : {A : Type 0} → Refused → Result A Refused → Refused
 refused_told d (Ok x) = d
 refused_told d (Err r) = r
 

@@ -2,13 +2,12 @@
 #![tactic(auto)]
 
 ghost use Rattle.std.specs.Prelude.{◌≡◌, length};
-ghost use Rattle.outcome.specs.Outcome.{answer};
 ghost use Rattle.block_rules.specs.Answers.{contaminant_fit, header_refusal, header_answer, header_left, contaminant_refusal, contaminant_answer, contaminant_left};
 ghost use Rattle.gv_rules.specs.Exports.{built_in_sent, built_in_put};
 
 use block_rules::{BLOCK_SIZE, Header};
 use inputs::{Contaminant, Scenario};
-use outcome::{Answer, Refusal};
+use outcome::{Refusal, Refused, in_block};
 
 // Whether a place keeps its rule, and a contaminant's class, id and decimals.
 fn contaminant_fit(place: u32, r: Contaminant) -> bool
@@ -18,65 +17,56 @@ fn contaminant_fit(place: u32, r: Contaminant) -> bool
 }
 
 // What the writer of kind 1 sends back where so many bytes are lent: 10, 4 for the count, the tests of the scenario.
-fn header_refusal(room: usize, h: Header) -> Refusal
+#[tactic(auto, unfolding(block_rules::specs::Answers::header_refusal, inputs::specs::Rules::scenario_refusal))]
+fn header_refusal(room: usize, h: Header) -> Result<(), Refusal>
     ensures { result ≡ header_refusal room h }
 {
     if room < BLOCK_SIZE {
-        return Refusal::Room;
+        return Err(Refusal::Room);
     }
     if !blocks::in_file(h.count) {
-        return Refusal::Field;
+        return Err(Refusal::Field);
     }
     inputs::scenario_refusal(h.scenario, h.medium)
 }
 
 // What the writer of kind 2 sends back where so many bytes are lent: 10, 4.
-fn contaminant_refusal(room: usize, place: u32, r: Contaminant) -> Refusal
+#[tactic(auto, unfolding(block_rules::specs::Answers::contaminant_refusal))]
+fn contaminant_refusal(room: usize, place: u32, r: Contaminant) -> Result<(), Refusal>
     ensures { result ≡ contaminant_refusal room place r }
 {
     if room < BLOCK_SIZE {
-        return Refusal::Room;
+        return Err(Refusal::Room);
     }
     if !contaminant_fit(place, r) {
-        return Refusal::Field;
+        return Err(Refusal::Field);
     }
-    Refusal::Accepted
+    Ok(())
 }
 
-// Writes a header's block, or refuses it and writes nothing. The block of the answer is always 0.
-pub fn write_header(out: &mut [u8], h: Header) -> Answer
+// Writes a header's block, or refuses it and writes nothing. The block of a refusal is always 0.
+pub fn write_header(out: &mut [u8], h: Header) -> Result<(), Refused>
     ensures { (result ≡ header_answer (length out.old) h) × (out.new ≡ header_left out.old h) }
 {
-    let refusal = header_refusal(out.len(), h);
-    if !outcome::accepted(refusal) {
-        return Answer { refusal, block: 0 };
-    }
+    in_block(header_refusal(out.len(), h), 0)?;
     block_output::put_header(out, h);
-    Answer { refusal, block: 0 }
+    Ok(())
 }
 
-// Writes a contaminant's block, or refuses it and writes nothing. The block of the answer is always 0.
-pub fn write_contaminant(out: &mut [u8], place: u32, r: Contaminant) -> Answer
+// Writes a contaminant's block, or refuses it and writes nothing. The block of a refusal is always 0.
+pub fn write_contaminant(out: &mut [u8], place: u32, r: Contaminant) -> Result<(), Refused>
     ensures { (result ≡ contaminant_answer (length out.old) place r) × (out.new ≡ contaminant_left out.old place r) }
 {
-    let refusal = contaminant_refusal(out.len(), place, r);
-    if !outcome::accepted(refusal) {
-        return Answer { refusal, block: 0 };
-    }
+    in_block(contaminant_refusal(out.len(), place, r), 0)?;
     block_output::put_contaminant(out, place, r);
-    Answer { refusal, block: 0 }
+    Ok(())
 }
 
 // Writes the header block of a built-in scenario.
-pub fn write_built_in(out: &mut [u8], number: u32, medium: u32, count: u32) -> Answer
-    ensures { (result ≡ answer (built_in_sent (length out.old) number medium count) 0) × (out.new ≡ built_in_put out.old number medium count) }
+pub fn write_built_in(out: &mut [u8], number: u32, medium: u32, count: u32) -> Result<(), Refused>
+    ensures { (result ≡ built_in_sent (length out.old) number medium count) × (out.new ≡ built_in_put out.old number medium count) }
 {
-    let b = Scenario::built_in(number);
-    let refusal = b.refusal;
-    let scenario = b.scenario;
-    if !outcome::accepted(refusal) {
-        return Answer { refusal, block: 0 };
-    }
+    let scenario = Scenario::built_in(number)?;
     let h = Header {
         medium,
         count,
