@@ -40,7 +40,7 @@ unfolding field_bytes
 one_field d = sym (append-nil (field d))
 
 -- ---- fields written behind fields just written
-pub placed_fields : (d l l' : List ℕ) (at to : ℕ) (x y : List Decimal) → l ≡ placed d at (field_bytes x) → at + 8 * length x ≡ to → at ≤ length d
+placed_fields : (d l l' : List ℕ) (at to : ℕ) (x y : List Decimal) → l ≡ placed d at (field_bytes x) → at + 8 * length x ≡ to → at ≤ length d
     → l' ≡ placed l to (field_bytes y) → l' ≡ placed d at (field_bytes (x ++ y))
 placed_fields d l l' at to x y e n h g =
     g ∙ ap (λ (t : List ℕ). placed t to (field_bytes y)) e

@@ -10,7 +10,7 @@ use Rattle.inputs.specs.declared.Toxicity.{Toxicity}
 use Rattle.inputs.specs.declared.Transfer.{Transfer}
 use Rattle.inputs.specs.declared.Contaminant.{Contaminant}
 
--- ---- the groups
+-- ---- the groups, of decimals or of the numbers that stand for them
 abbrev pub exposure_decimals : {T : Type 0} → Exposure T → List T
 exposure_decimals x = x.ef ∷ (x.ed ∷ (x.bw ∷ (x.at ∷ [])))
 

@@ -330,7 +330,7 @@ pub fn valid(d: Decimal) -> bool
 }
 
 // Whether each decimal keeps its rule. No branch depends on them.
-pub fn all_valid<const N: usize>(ds: [Decimal; N]) -> bool
+fn all_valid<const N: usize>(ds: [Decimal; N]) -> bool
     ensures { result ≡ all_valid ds.entry }
 {
     let mut ok = true;
