@@ -8,8 +8,9 @@ ghost use Rattle.sum_rules.specs.ListCall.{sums_of};
 use block_rules::Header;
 use input_bytes::read_full;
 use inputs::{Contaminant, Scenario};
+use outcome::Refused;
 use std::io::{self, Read};
-use sum_rules::SumsAnswer;
+use sum_rules::Sums;
 
 // The first 128 bytes of the next block. What the input does not give of them is of zeros.
 fn read_block<R: Read>(input: &mut R) -> io::Result<[u8; 128]> {
@@ -49,7 +50,7 @@ pub fn read_records<R: Read>(input: &mut R, n: usize) -> io::Result<Records>
 
 impl Records {
     // Lends them to the list call.
-    pub fn sums(&self, s: Scenario, medium: u32) -> SumsAnswer
+    pub fn sums(&self, s: Scenario, medium: u32) -> Result<Sums, Refused>
         ensures { result ≡ sums_of s medium (take self.now.count self.now.list) }
     {
         list_sums::sums_of_list(s, medium, &self.list[..self.count])

@@ -1,8 +1,9 @@
 -- What the program site_cases prints of a case.
-use Rattle.std.specs.Prelude.{ℕ, ◌-◌, ◌^◌, List, [], ◌∷◌, ◌++◌, false, replicate}
+use Rattle.std.specs.Prelude.{ℕ, ◌-◌, ◌^◌, List, [], ◌∷◌, ◌++◌, false, replicate, Result}
 use lib.Chars.{codes}
 use Rattle.std.specs.Fmt.{decimal, digits, padded_integral, format_spec}
-use Rattle.sum_rules.specs.declared.SumsAnswer.{SumsAnswer}
+use Rattle.outcome.specs.declared.Refused.{Refused}
+use Rattle.sum_rules.specs.declared.Sums.{Sums}
 use Rattle.site_rules.specs.Site.{site_answer}
 use Rattle.site_rules.specs.Results.{site_left}
 use Rattle.listing_rules.specs.Listing.{listing_of}
@@ -14,7 +15,7 @@ abbrev pub hex16 : ℕ → List ℕ
 hex16 n = padded_integral (format_spec 32 0 4 16 (2 ^ 64 - 1)) false [] (digits 16 false n)
 
 -- the word of the answer
-abbrev pub answer_line : SumsAnswer → List ℕ
+abbrev pub answer_line : Result Sums Refused → List ℕ
 answer_line a = codes "answer " ++ hex16 (packed a) ++ 10 ∷ []
 
 -- the weight of an output

@@ -5,7 +5,9 @@ ghost use Rattle.std.specs.Prelude.{◌≡◌, ◌≤◌, length, replicate, OnO
 ghost use Rattle.std.specs.Io.KnownBytes.{Appends};
 ghost use Rattle.site_calls.specs.Lines.{answer_line, output_line, case_text};
 
+use outcome::Refused;
 use std::io::{self, Write};
+use sum_rules::Sums;
 
 // The output before the call: every byte 165, so that a byte that is written shows.
 fn fill(out: &mut [u8])
@@ -15,7 +17,7 @@ fn fill(out: &mut [u8])
 }
 
 // Prints a line: a word, a number, a line feed.
-fn print_answer<W: Write>(output: &mut W, a: sum_rules::SumsAnswer) -> io::Result<()>
+fn print_answer<W: Write>(output: &mut W, a: Result<Sums, Refused>) -> io::Result<()>
     ensures { OnOk result (Appends (W.contents output.old) (W.contents output.new) (answer_line a)) }
 {
     let packed = c_structs::pack(a);

@@ -1,30 +1,39 @@
 -- The texts of what the single guideline, the list call and the built-in scenarios send back, and the operations on decimals.
-use Rattle.std.specs.Prelude.{ℕ, ◌/◌, ◌%◌, ◌==◌, if◌then◌else◌, List, [], ◌∷◌, ◌++◌}
+use Rattle.std.specs.Prelude.{ℕ, ◌/◌, ◌%◌, ◌==◌, if◌then◌else◌, List, [], ◌∷◌, ◌++◌, Result}
 use Rattle.rounding.specs.declared.Direction.{Direction}
 use Rattle.rounding.specs.declared.Direction.TheVariants.{Down, Up}
 use Rattle.decimal.specs.declared.Decimal.{Decimal}
 use Rattle.decimal.specs.Decimal.{mul_of, div_of, add_of, working_of}
-use Rattle.outcome.specs.Outcome.{number_of}
-use Rattle.inputs.specs.declared.BuiltIn.{BuiltIn}
+use Rattle.outcome.specs.declared.Refused.{Refused}
+use Rattle.outcome.specs.Outcome.{number_of, block_of}
+use Rattle.inputs.specs.BuiltIn.{scenario_sent}
 use Rattle.inputs.specs.declared.Scenario.{Scenario}
-use Rattle.guideline_rules.specs.declared.GuidelineAnswer.{GuidelineAnswer}
-use Rattle.sum_rules.specs.declared.SumsAnswer.{SumsAnswer}
-use Rattle.sum_rules.specs.Verdict.{verdict_number}
+use Rattle.formulas.specs.Side.{Risk, Hazard}
+use Rattle.guideline_rules.specs.declared.Guidelines.{Guidelines}
+use Rattle.guideline_rules.specs.declared.SideGuidelines.{SideGuidelines}
+use Rattle.guideline_rules.specs.Guideline.{guidelines_sent}
+use Rattle.sum_rules.specs.declared.Sums.{Sums}
+use Rattle.sum_rules.specs.Promise.{side_sent}
 use Rattle.case_output.specs.Printed.{next_text, all_text, four_text}
 
+-- refusal and block
+abbrev pub answered_text : {A : Type 0} → Result A Refused → List ℕ
+answered_text a = next_text (number_of a) ++ next_text (block_of a)
+
+-- the guidelines of a side
+abbrev pub side_text : SideGuidelines → List ℕ
+side_text g = four_text g.first g.second g.third g.total
+
 -- refusal, block, eight decimals
-abbrev pub guidelines_text : GuidelineAnswer → List ℕ
-guidelines_text a =
-    next_text (number_of a.refusal) ++ next_text a.block ++
-    four_text a.risk.first a.risk.second a.risk.third a.risk.total ++
-    four_text a.hazard.first a.hazard.second a.hazard.third a.hazard.total
+abbrev pub guidelines_text : Result Guidelines Refused → List ℕ
+guidelines_text a = answered_text a ++ side_text (guidelines_sent a).risk ++ side_text (guidelines_sent a).hazard
 
 -- refusal, block, four sums, two verdicts
-abbrev pub sums_text : SumsAnswer → List ℕ
+abbrev pub sums_text : Result Sums Refused → List ℕ
 sums_text a =
-    next_text (number_of a.refusal) ++ next_text a.block ++
-    four_text a.risk.lower a.risk.upper a.hazard.lower a.hazard.upper ++
-    next_text (verdict_number a.risk.verdict) ++ next_text (verdict_number a.hazard.verdict)
+    answered_text a ++
+    four_text (side_sent a Risk).lower (side_sent a Risk).upper (side_sent a Hazard).lower (side_sent a Hazard).upper ++
+    next_text (side_sent a Risk).verdict ++ next_text (side_sent a Hazard).verdict
 
 -- the twelve factors of a scenario
 abbrev pub factors_text : Scenario → List ℕ
@@ -35,8 +44,8 @@ factors_text s =
     s.contact.rf ∷ s.contact.sa ∷ s.targets.tr ∷ s.targets.thi ∷ [])
 
 -- refusal, block, factors
-abbrev pub built_in_text : BuiltIn → List ℕ
-built_in_text b = next_text (number_of b.refusal) ++ next_text b.block ++ factors_text b.scenario
+abbrev pub built_in_text : Result Scenario Refused → List ℕ
+built_in_text b = answered_text b ++ factors_text (scenario_sent b)
 
 -- down for an even choice, up for an odd one
 abbrev pub direction_of : ℕ → Direction

@@ -5,49 +5,79 @@
 ghost use Rattle.std.specs.Prelude.{◌≡◌, OnOk};
 ghost use Rattle.std.specs.Io.KnownBytes.{Appends};
 ghost use Rattle.inputs.specs.BuiltIn.{built_in_of};
-ghost use Rattle.value_calls.specs.Sent.{guidelines_text, sums_text, factors_text, built_in_text, direction_of, operation_of};
+ghost use Rattle.value_calls.specs.Sent.{answered_text, side_text, guidelines_text, sums_text, factors_text, built_in_text, direction_of, operation_of};
 
 use call_records::{read_contaminant, read_header, read_records};
 use case_output::{print_all, print_next, print_pair};
 use decimal::Decimal;
-use guideline_rules::GuidelineAnswer;
-use inputs::{BuiltIn, Scenario};
+use guideline_rules::{Guidelines, SideGuidelines};
+use inputs::Scenario;
+use outcome::Refused;
 use rounding::Direction;
 use std::io::{self, Read, Write};
-use sum_rules::SumsAnswer;
+use sum_rules::Sums;
 
 // The longest list that a case lends: one record more than the call takes.
 const RECORDS: usize = 121;
 
-// Prints what the single guideline sends back: refusal, block, eight decimals.
-fn print_guidelines<W: Write>(output: &mut W, a: GuidelineAnswer) -> io::Result<()>
-    ensures { OnOk result (Appends (W.contents output.old) (W.contents output.new) (guidelines_text a)) }
+// The guidelines of a refused call.
+const NO_SIDE: SideGuidelines = SideGuidelines {
+    first: Decimal::ZERO,
+    second: Decimal::ZERO,
+    third: Decimal::ZERO,
+    total: Decimal::ZERO,
+};
+
+const NO_GUIDELINES: Guidelines = Guidelines {
+    risk: NO_SIDE,
+    hazard: NO_SIDE,
+};
+
+// Prints the number and the block that an answer sends back.
+fn print_answered<W: Write, T: Copy>(output: &mut W, a: Result<T, Refused>) -> io::Result<()>
+    ensures { OnOk result (Appends (W.contents output.old) (W.contents output.new) (answered_text a)) }
 {
-    let risk = a.risk;
-    let hazard = a.hazard;
-    print_next(output, outcome::number(a.refusal))?;
-    print_next(output, a.block)?;
-    print_all(output, &[risk.first, risk.second, risk.third, risk.total])?;
-    print_all(
-        output,
-        &[hazard.first, hazard.second, hazard.third, hazard.total],
-    )
+    print_next(output, outcome::number(a))?;
+    print_next(output, outcome::block(a))
 }
 
-// Prints what the list call sends back: refusal, block, four sums, two verdicts.
-fn print_sums<W: Write>(output: &mut W, a: SumsAnswer) -> io::Result<()>
+// Prints four decimals of a side's guidelines.
+fn print_side<W: Write>(output: &mut W, g: SideGuidelines) -> io::Result<()>
+    ensures { OnOk result (Appends (W.contents output.old) (W.contents output.new) (side_text g)) }
+{
+    print_all(output, &[g.first, g.second, g.third, g.total])
+}
+
+// Prints what the single guideline sends back: refusal, block, eight decimals, zeros where it is refused.
+fn print_guidelines<W: Write>(output: &mut W, a: Result<Guidelines, Refused>) -> io::Result<()>
+    ensures { OnOk result (Appends (W.contents output.old) (W.contents output.new) (guidelines_text a)) }
+{
+    print_answered(output, a)?;
+    let g = a.unwrap_or(NO_GUIDELINES);
+    print_side(output, g.risk)?;
+    print_side(output, g.hazard)
+}
+
+// Prints what the list call sends back: refusal, block, four sums, two verdicts, zeros where it is refused.
+fn print_sums<W: Write>(output: &mut W, a: Result<Sums, Refused>) -> io::Result<()>
     ensures { OnOk result (Appends (W.contents output.old) (W.contents output.new) (sums_text a)) }
 {
-    let risk = a.risk;
-    let hazard = a.hazard;
-    print_next(output, outcome::number(a.refusal))?;
-    print_next(output, a.block)?;
-    print_all(
-        output,
-        &[risk.lower, risk.upper, hazard.lower, hazard.upper],
-    )?;
-    print_next(output, sums::verdict_number(risk.verdict))?;
-    print_next(output, sums::verdict_number(hazard.verdict))
+    print_answered(output, a)?;
+    match a {
+        Ok(s) => {
+            print_all(
+                output,
+                &[s.risk.lower, s.risk.upper, s.hazard.lower, s.hazard.upper],
+            )?;
+            print_next(output, sums::verdict_number(s.risk.verdict))?;
+            print_next(output, sums::verdict_number(s.hazard.verdict))
+        }
+        Err(_) => {
+            print_all(output, &[Decimal::ZERO; 4])?;
+            print_next(output, 0)?;
+            print_next(output, 0)
+        }
+    }
 }
 
 // Prints the twelve factors of a scenario.
@@ -65,13 +95,12 @@ fn print_factors<W: Write>(output: &mut W, s: Scenario) -> io::Result<()>
     )
 }
 
-// Prints a built-in scenario: refusal, block, factors.
-fn print_built_in<W: Write>(output: &mut W, b: BuiltIn) -> io::Result<()>
+// Prints a built-in scenario: refusal, block, factors, zeros where it is refused.
+fn print_built_in<W: Write>(output: &mut W, b: Result<Scenario, Refused>) -> io::Result<()>
     ensures { OnOk result (Appends (W.contents output.old) (W.contents output.new) (built_in_text b)) }
 {
-    print_next(output, outcome::number(b.refusal))?;
-    print_next(output, b.block)?;
-    print_factors(output, b.scenario)
+    print_answered(output, b)?;
+    print_factors(output, b.unwrap_or(Scenario::BLANK))
 }
 
 // Call 1, on a header block and a contaminant block: the single guideline.

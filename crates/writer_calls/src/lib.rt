@@ -3,21 +3,21 @@
 
 ghost use Rattle.std.specs.Prelude.{◌≤◌, ◌++◌, length, OnOk};
 ghost use Rattle.std.specs.Io.KnownBytes.{Appends};
-ghost use Rattle.outcome.specs.Outcome.{number_of};
+ghost use Rattle.outcome.specs.Outcome.{number_of, block_of};
 ghost use Rattle.case_output.specs.Printed.{next_text, weight};
 
 use call_records::{read_contaminant, read_header};
 use case_output::{print_next, weigh};
-use outcome::Answer;
+use outcome::Refused;
 use std::io::{self, Read, Write};
 
 // Prints what a writer sends back and leaves: refusal, block, and the weighed output.
-fn print_written<W: Write>(output: &mut W, a: Answer, out: &[u8]) -> io::Result<()>
+fn print_written<W: Write>(output: &mut W, a: Result<(), Refused>, out: &[u8]) -> io::Result<()>
     requires { length out.now ≤ 1024 }
-    ensures { OnOk result (Appends (W.contents output.old) (W.contents output.new) (next_text (number_of a.refusal) ++ next_text a.block ++ next_text (weight out.now))) }
+    ensures { OnOk result (Appends (W.contents output.old) (W.contents output.new) (next_text (number_of a) ++ next_text (block_of a) ++ next_text (weight out.now))) }
 {
-    print_next(output, outcome::number(a.refusal))?;
-    print_next(output, a.block)?;
+    print_next(output, outcome::number(a))?;
+    print_next(output, outcome::block(a))?;
     print_next(output, weigh(out))
 }
 
