@@ -1,23 +1,18 @@
--- `gv::gv_guideline`: the word and the bytes say what the single guideline sends.
-use Rattle.std.proofs.Common.{ℕ, sym, ap, ◌∙◌}
-use Rattle.gv_rules.specs.Exports.{word_of}
-use Rattle.gv.proofs.Guidelines.{own_is, says_refused, says_no_room, says_written}
+-- `gv::gv_guideline`: the word and the bytes are those of the single guideline.
+use Rattle.std.proofs.Common.{◌≡◌, length, refl, ap, ◌∙◌}
+use Rattle.std.specs.Prelude.{Result}
+use Rattle.outcome.specs.declared.Refused.{Refused}
+use Rattle.guideline_rules.specs.declared.Guidelines.{Guidelines}
+use Rattle.gv_rules.specs.Exports.{with_room, guideline_sent, guideline_word, guideline_put}
+use Rattle.gv.proofs.Guidelines.{own_is}
 use Rattle.gv.proofs.gv_guideline.Goals as goal
 
-pub returns-then-not-accepted : goal.returns-then-not-accepted
-returns-then-not-accepted c =
-    let e = own_is c.args.header.now c.args.contaminant.now c.header_from-h.ensures c.contaminant_from-r.ensures.0 c.single-a.ensures in
-    says_refused c.args.header.now c.args.contaminant.now c.args.out.now e (sym c.accepted.ensures ∙ c.if-not-accepted.true)
-    (c.word_of.ensures ∙ ap (λ (n : ℕ). word_of n c.single-a.result.block 0 0) c.number.ensures)
-
-pub returns-then-out-lt64 : goal.returns-then-out-lt64
-returns-then-out-lt64 c =
-    let e = own_is c.args.header.now c.args.contaminant.now c.header_from-h.ensures c.contaminant_from-r.ensures.0 c.single-a.ensures in
-    says_no_room c.args.header.now c.args.contaminant.now c.args.out.now e (sym c.accepted.ensures ∙ c.if-not-accepted.false) c.if-out-lt64.true
-    (c.word_of-then-out-lt64.ensures ∙ ap (λ (n : ℕ). word_of n 0 0 0) c.number-then-out-lt64.ensures)
-
 pub returns : goal.returns
+unfolding guideline_sent guideline_word
 returns c =
-    let e = own_is c.args.header.now c.args.contaminant.now c.header_from-h.ensures c.contaminant_from-r.ensures.0 c.single-a.ensures in
-    says_written c.args.header.now c.args.contaminant.now c.args.out.now e (sym c.accepted.ensures ∙ c.if-not-accepted.false) c.if-out-lt64.false
-    (c.word_of-2.ensures ∙ ap (λ (n : ℕ). word_of n c.single-a.result.block 0 0) c.number-2.ensures) c.put_guidelines.ensures
+    let a = c.args in
+    let own = own_is a.header.now a.contaminant.now c.header_from-h.ensures c.contaminant_from-r.ensures.0 c.single.ensures in
+    let sent = c.put_answer-a.ensures.0 ∙ ap (with_room (length a.out.now)) own in (
+      rw (c.word_of.ensures, c.number.ensures, c.block.ensures, sent) refl,
+      c.put_answer-a.ensures.1 ∙ ap (λ (x : Result Guidelines Refused). guideline_put x a.out.now) sent,
+    )
