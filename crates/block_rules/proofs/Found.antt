@@ -115,6 +115,13 @@ header_sent b blocks =
     (by (lacks_factor (scenario_at b 16)) Factor (Ok (header_at b 8)) (record { least = omega arith; most = omega arith })
     (λ y e. absurd (not_header y (header_at b 8) (sym e))))))))
 
+-- so its number is never 0
+pub contaminant_refused : (b : List ℕ) (place previous : ℕ) (y : Refusal) → contaminant_read b place previous ≡ Err y → refusal_number y ≡ 0 → ⊥
+contaminant_refused b place previous y e = (refusal_numbered y).some
+
+pub header_refused : (b : List ℕ) (blocks : ℕ) (y : Refusal) → header_read b blocks ≡ Err y → refusal_number y ≡ 0 → ⊥
+header_refused b blocks y e = (refusal_numbered y).some
+
 -- ---- the facts by the number: a block with number 0 has passed every test, and its value is what it holds
 pub contaminant_accepted : (b : List ℕ) (place previous : ℕ) → tests_number (contaminant_read b place previous) ≡ 0 →
     ContaminantFacts b previous (contaminant_value (contaminant_read b place previous))

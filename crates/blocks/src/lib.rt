@@ -137,7 +137,12 @@ pub fn read_header(site: &[u8], blocks: u32) -> Result<Header, Refusal>
 }
 
 // The contaminant in the block at `at`, which is to have this place and an id above the one before.
-pub fn read_contaminant(site: &[u8], at: usize, place: u32, previous: u32) -> Result<Contaminant, Refusal>
+pub fn read_contaminant(
+    site: &[u8],
+    at: usize,
+    place: u32,
+    previous: u32,
+) -> Result<Contaminant, Refusal>
     ensures { result ≡ contaminant_read (part_of site.now at block_size) place previous }
 {
     if !has_block(site, at) {

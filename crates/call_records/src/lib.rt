@@ -2,7 +2,7 @@
 // of a block are left out, so that values which no file may hold reach the calls too.
 #![tactic(auto)]
 
-ghost use Rattle.std.specs.Prelude.{◌≡◌, ◌≤◌, take};
+ghost use Rattle.std.specs.Prelude.{◌≡◌, ◌≤◌, take, IfOk};
 ghost use Rattle.sum_rules.specs.ListCall.{sums_of};
 
 use block_rules::Header;
@@ -40,6 +40,7 @@ pub struct Records {
 // The contaminants in the next n blocks.
 pub fn read_records<R: Read>(input: &mut R, n: usize) -> io::Result<Records>
     requires { n ≤ 121 }
+    ensures { IfOk result (λ r. r.count ≡ n) }
 {
     let mut list = [Contaminant::NONE; 121];
     for r in &mut list[..n] {

@@ -11,7 +11,6 @@ use Rattle.listing_rules.specs.declared.Side.TheVariants.{Risk, Hazard}
 use Rattle.listing_rules.specs.Lines.{side_word, verdict_word, mark_of, line_of, lines_of, sum_line, refusal_line}
 use mathlib.Core.Bool.{Bool, true, false, cond}
 use lib.Dec.{eqb}
-use borrow.Author.Tests.{eqb-true}
 use Rattle.guideline_rules.specs.declared.SideGuidelines.{SideGuidelines}
 use Rattle.guideline_rules.specs.Guideline.{guidelines_sent, guideline_of}
 use Rattle.inputs.specs.declared.Scenario.{Scenario}

@@ -11,7 +11,7 @@ use Rattle.outcome.specs.declared.Refusal.TheVariants.{Field}
 use Rattle.decimal.specs.Decimal.{zero_of}
 use Rattle.std.specs.Prelude.{Result, Ok, Err, ⊤}
 use Rattle.outcome.specs.declared.Refused.{Refused}
-use Rattle.outcome.specs.Outcome.{number_of, refused, concerning, located, answered, passing}
+use Rattle.outcome.specs.Outcome.{number_of, refused, concerning, located, answered}
 use Rattle.outcome.proofs.Numbers.{not_both}
 use Rattle.outcome.proofs.Tests.{tests_refused, reader_value, refused_told}
 use Rattle.inputs.specs.declared.Contaminant.{Contaminant}
@@ -22,7 +22,7 @@ use Rattle.fields.specs.Fields.{decimals_at}
 use Rattle.words.specs.Words.{part_of}
 use Rattle.guideline_rules.specs.declared.SideGuidelines.{SideGuidelines}
 use Rattle.guideline_rules.specs.declared.Guidelines.{Guidelines}
-use Rattle.guideline_rules.specs.Guideline.{guideline_of, worked_out, guidelines_sent}
+use Rattle.guideline_rules.specs.Guideline.{guideline_of, guidelines_sent}
 use Rattle.guideline_rules.proofs.Accepted.{scenario_passed}
 use Rattle.sum_rules.specs.declared.Sums.{Sums}
 use Rattle.block_rules.specs.declared.Header.{Header}

@@ -3,7 +3,6 @@ use mathlib.Core.Path.{◌≡◌, sym, ap, subst, ◌∙◌}
 use mathlib.Core.List.{List}
 use Prim.Native.Nat.{ℕ, ◌+◌, ◌*◌, ◌-◌, ◌≤◌}
 use lib.ListN.{take, drop}
-use borrow.Author.Tests.{eq-eqb}
 use Rattle.std.specs.Prelude.{Result}
 use Rattle.outcome.specs.declared.Refused.{Refused}
 use Rattle.inputs.specs.declared.Scenario.{Scenario}
@@ -18,7 +17,6 @@ use Rattle.guideline.specs.declared.Column.{Column}
 use Rattle.guideline.specs.Column.{ColumnFor, PrintableColumn, column_decimals}
 use Rattle.inputs.specs.Rules.{scenario_refusal, most_contaminants}
 use Rattle.inputs.specs.Limits.{share_width}
-use Rattle.guideline_rules.specs.Pathway.{record_refusal}
 use Rattle.guideline_rules.specs.Guideline.{guidelines_sent, guideline_of, accepted}
 use Rattle.guideline.proofs.ColumnBounds.{column_printable}
 use Rattle.guideline.proofs.Steps.{TermsOf, ColumnsOf, wide, risk_column, hazard_column, accepted_out}

@@ -1,12 +1,11 @@
 -- A scenario and a medium that passed, and the inputs of a record that passed. Assumes nothing.
-use mathlib.Core.Path.{◌≡◌, refl}
+use mathlib.Core.Path.{◌≡◌}
 use mathlib.Core.Bool.{true}
 use Prim.Native.Nat.{ℕ}
 use Rattle.inputs.specs.declared.Scenario.{Scenario}
 use Rattle.inputs.specs.declared.Contaminant.{Contaminant}
-use Rattle.inputs.specs.BuiltIn.{blank}
-use Rattle.inputs.specs.Inputs.{scenario_decimals, scenario_of, exposure_of, contact_of, targets_of}
-use Rattle.inputs.specs.Valid.{valid_of, all_valid}
+use Rattle.inputs.specs.Inputs.{scenario_decimals}
+use Rattle.inputs.specs.Valid.{all_valid}
 use Rattle.inputs.specs.Rules.{one_or_two, scenario_fits, OneOrTwo}
 use Rattle.inputs.proofs.Tests.{and_split, one_or_two_lem}
 use Rattle.shares.specs.declared.Plan.{Plan}

@@ -1,7 +1,7 @@
 -- The blocks that an accepted site leaves in the output: the summary at place 0, at each later place the result block of the record there,
 -- and behind them the bytes that were there. No site changes the length of the output. Assumes nothing.
 use mathlib.Core.Path.{◌≡◌, refl, sym, ap, ◌∙◌}
-use mathlib.Core.Bool.{Bool, true, false, cond}
+use mathlib.Core.Bool.{Bool, true, false}
 use mathlib.Core.List.{List, ◌++◌, append_assoc}
 use Prim.Native.Nat.{ℕ, zero, suc, ◌*◌, ◌≤◌}
 use native.Mathlib.Omega.{arith}

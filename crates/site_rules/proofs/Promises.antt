@@ -16,13 +16,11 @@ use Rattle.formulas.specs.Side.{Side}
 use Rattle.formulas.specs.Formula.{none}
 use Rattle.formulas.specs.Term.{formulas_for}
 use Rattle.formulas.specs.ExactTerm.{exact_present, exact_term, exact_total, exact_for, any_present}
-use Rattle.guideline_rules.specs.Pathway.{record_refusal}
 use Rattle.guideline_rules.specs.Guideline.{guidelines_sent, guideline_of}
 use Rattle.guideline_rules.specs.Promise.{target_of, pathway_at, Promised, side_at as guidelines_at}
 use Rattle.guideline_rules.proofs.Accepted.{accepted_inputs}
 use Rattle.guideline_rules.proofs.Promises.{worked, promise, pathway_promises}
 use Rattle.sum_rules.specs.declared.Sums.{Sums}
-use Rattle.sum_rules.specs.Verdict.{verdict_number}
 use Rattle.sum_rules.specs.ListCall.{sums_of}
 use Rattle.sum_rules.specs.Promise.{exact_sum, some_pathway, no_concentration, side_sent, ZeroSums, Enclosed, Judged}
 use Rattle.sum_rules.proofs.Verdicts.{sums_enclose, zero_within, verdict_judges}

@@ -6,7 +6,7 @@ use Prim.Native.Nat.{ℕ, zero, suc, ◌+◌, ◌*◌, ◌/◌, ◌≤◌}
 use native.Mathlib.Omega.{arith}
 use lib.Dec.{eqb, leb}
 use lib.ListN.{length}
-use borrow.Author.Tests.{eqb-true, eqb-false, not-true, not-false}
+use borrow.Author.Tests.{eqb-true, not-false}
 use Rattle.outcome.specs.declared.Refusal.{Refusal}
 use Rattle.outcome.specs.declared.Refusal.TheVariants.{Check, Kind, Field, Count, Factor, Order, Range}
 use Rattle.std.specs.Prelude.{Result, Ok, Err}
@@ -30,8 +30,7 @@ use Rattle.sum_rules.specs.ListCall.{block_ranged, accepted, taken_in}
 use Rattle.site_rules.specs.Blocks.{length_ok, block_at, header_of, record_at, records_from, all_sums}
 use Rattle.site_rules.specs.Site.{site_answer}
 use Rattle.site_rules.specs.Refusals.{Condition, in_block, header_conditions, record_conditions, range_condition, block_conditions, later_conditions, room_condition, site_conditions}
-use Rattle.site_rules.specs.Refusals.{first_holding, FirstHolds}
-use Rattle.site_rules.specs.Refusals.FirstHolds.{here, later}
+use Rattle.site_rules.specs.Refusals.{first_holding}
 use Rattle.site_rules.proofs.Walk.{walk_blocks, with_room, walked_answer}
 use Rattle.site_rules.proofs.RightLength.{right_length}
 

@@ -104,6 +104,7 @@ pub record AcceptedList (s : Scenario) (medium : ℕ) (rs : List Contaminant) : 
   pub all : AllAccepted s medium rs
   pub some : 1 ≤ length rs
   pub most : length rs ≤ 120
+  pub is : sums_of s medium rs ≡ accepted s (run_all s medium Risk start rs) (run_all s medium Hazard start rs)
   pub sides : (side : Side) → side_sent (sums_of s medium rs) side ≡ sent_of (side_sums s side (run_all s medium side start rs))
 
 -- the tests before the first record
@@ -141,4 +142,4 @@ module _ (s : Scenario) (medium : ℕ) (rs : List Contaminant) (h : number_of (s
   pub accepted_list : AcceptedList s medium rs
   accepted_list =
       let p = and_split (leb 1 (length rs)) (leb (length rs) 120) parts.length_fits in
-      record { all = walked.all; some = leb-true 1 (length rs) p.0; most = leb-true (length rs) 120 p.1; sides = side_is }
+      record { all = walked.all; some = leb-true 1 (length rs) p.0; most = leb-true (length rs) 120 p.1; is = sums_is; sides = side_is }

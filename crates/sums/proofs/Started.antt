@@ -1,11 +1,10 @@
 -- The first state of the list call gives the answer of the whole list. Assumes nothing.
 use Rattle.std.proofs.Common.{◌≡◌, ℕ, ◌≤◌, List, length, refl, sym, ap, ◌∙◌, arith}
-use Rattle.std.specs.Prelude.{leb, Result, Ok, Err, ⊤}
+use Rattle.std.specs.Prelude.{leb, Ok, Err}
 use lib.Dec.{lit≤}
 use borrow.Author.Tests.{leb-true}
-use Rattle.outcome.specs.declared.Refusal.{Refusal}
 use Rattle.outcome.specs.declared.Refused.{Refused}
-use Rattle.outcome.specs.Outcome.{located, passing}
+use Rattle.outcome.specs.Outcome.{located}
 use Rattle.outcome.proofs.Tests.{tests_refused}
 use Rattle.inputs.specs.declared.Scenario.{Scenario}
 use Rattle.inputs.specs.declared.Contaminant.{Contaminant}

@@ -24,8 +24,7 @@ use Rattle.shares.specs.declared.Worked.{Worked}
 use Rattle.shares.specs.declared.SideRun.{SideRun}
 use Rattle.shares.specs.declared.Runs.{Runs}
 use Rattle.sums.specs.declared.State.{State}
-use Rattle.sum_rules.specs.Share.{Running, next}
-use Rattle.shares.specs.Plan.{Workable, WorkedFor, running_of, RunSize, Addable, Added}
+use Rattle.shares.specs.Plan.{Workable, WorkedFor, RunSize, Addable, Added}
 use Rattle.shares.proofs.Plans.{inputs_of_lem}
 use Rattle.sums.specs.State.{steps, answer_from, SideReady, RunsReady, Moved, Advancing, NextRuns}
 use Rattle.sums.proofs.NextSums.{SideTerms, next_ready, next_is}

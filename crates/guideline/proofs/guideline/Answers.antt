@@ -1,8 +1,6 @@
 -- `guideline::guideline`: the tests of the scenario, of the fields and of the record in their order.
 use Rattle.std.proofs.Common.{◌≡◌, true, ℕ, sym, ◌∙◌}
-use Rattle.std.specs.Prelude.{Result, Ok, ⊤}
-use Rattle.outcome.specs.declared.Refusal.{Refusal}
-use Rattle.outcome.specs.Outcome.{located}
+use Rattle.std.specs.Prelude.{Ok}
 use Rattle.outcome.proofs.Tests.{handed_back, tests_refused, tests_passed}
 use Rattle.inputs.specs.declared.Scenario.{Scenario}
 use Rattle.inputs.specs.declared.Contaminant.{Contaminant}
@@ -40,7 +38,7 @@ returns-in_err-in_block-2 c =
 pub worked_out-requires : goal.worked_out-requires
 worked_out-requires c =
     let k = checked {r = c.args.r} (tests_passed c.scenario_refusal.ensures 0 (sym c.in_ok-in_block.ensures))
-        (sym c.contaminant_fits.ensures ∙ c.if-not-contaminant_fits.false) in
+    (sym c.contaminant_fits.ensures ∙ c.if-not-contaminant_fits.false) in
     accepted_inputs c.args.s c.args.medium c.args.r k.scenario k.factors k.contaminant
 
 pub returns : goal.returns

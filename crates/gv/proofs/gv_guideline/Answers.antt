@@ -1,5 +1,5 @@
 -- `gv::gv_guideline`: the word and the bytes are those of the single guideline.
-use Rattle.std.proofs.Common.{◌≡◌, length, refl, ap, ◌∙◌}
+use Rattle.std.proofs.Common.{length, refl, ap, ◌∙◌}
 use Rattle.std.specs.Prelude.{Result}
 use Rattle.outcome.specs.declared.Refused.{Refused}
 use Rattle.guideline_rules.specs.declared.Guidelines.{Guidelines}

@@ -2,9 +2,7 @@
 use Rattle.std.proofs.Common.{◌≡◌, ℕ, ◌+◌, ◌<◌, List, ◌∷◌, length, slice_index_or, drop, refl, sym, ap, subst, ◌∙◌, add-one}
 use Rattle.std.proofs.Math.Seq.{drop-cons}
 use Rattle.inputs.specs.declared.Contaminant.{Contaminant}
-use Rattle.shares.specs.declared.Plan.{Plan}
 use Rattle.outcome.proofs.Tests.{handed_back}
-use Rattle.sums.specs.declared.State.{State}
 use Rattle.sums.specs.State.{Room, answer_from}
 use Rattle.sums.proofs.Started.{refused_first, started_good, started_room, started_answer}
 use Rattle.list_sums.proofs.sums_of_list.Goals as goal

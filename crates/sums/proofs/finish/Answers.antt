@@ -1,8 +1,5 @@
 -- `sums::finish`: no record is left, so the answer is that of the sums.
-use Rattle.std.proofs.Common.{ap}
-use Rattle.std.specs.Prelude.{Ok}
 use Rattle.sums.specs.State.{steps, answer_from}
-use Rattle.sums.proofs.Comparisons.{runs_comparable}
 use Rattle.sums.proofs.finish.Goals as goal
 
 pub returns : goal.returns

@@ -1,5 +1,5 @@
 -- `writers::write_built_in`: a number that is no scenario's is refused; of another the header is written.
-use Rattle.std.proofs.Common.{refl, sym, ◌∙◌}
+use Rattle.std.proofs.Common.{refl, sym}
 use Rattle.outcome.proofs.Tests.{handed_back}
 use Rattle.gv_rules.specs.Exports.{built_in_sent, built_in_put}
 use Rattle.writers.proofs.write_built_in.Goals as goal
