@@ -22,10 +22,9 @@ pub struct Decimal {
 pub fn biased_exponent(e: i32) -> u64
     ensures { result ≡ raised e }
 {
-    if (-999..=999).contains(&e) {
-        (e + 3000) as u64
-    } else {
-        0
+    match e {
+        -999..=999 => (e + 3000) as u64,
+        _ => 0,
     }
 }
 
