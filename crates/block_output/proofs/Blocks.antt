@@ -1,7 +1,8 @@
 -- The steps of a writer of blocks: fields one behind the other, then the last word. Assumes nothing.
-use Rattle.std.proofs.Common.{◌≡◌, ℕ, ◌+◌, ◌-◌, ◌*◌, ◌%◌, ◌<◌, List, ◌++◌, length, drop, sym, ap, ◌∙◌, append_assoc, arith}
+use Rattle.std.proofs.Common.{◌≡◌, ℕ, ◌+◌, ◌-◌, ◌*◌, ◌%◌, ◌<◌, ◌≤◌, true, List, ◌++◌, length, drop, sym, ap, ◌∙◌, append_assoc, arith}
+use Rattle.words.specs.Words.{word_sum, zeros}
 use Rattle.words.specs.Bytes.{le4, placed, over}
-use Rattle.words.proofs.Words.{le4_length, word_sum_front}
+use Rattle.words.proofs.Words.{le4_length, word_sum_front, word_sum_zeros}
 use Rattle.words.proofs.Written.{Wrote, wrote_next}
 use Rattle.decimal.specs.declared.Decimal.{Decimal}
 use Rattle.fields.specs.Fields.{field_bytes}
@@ -12,6 +13,13 @@ use Rattle.block_rules.specs.Layouts.{last_word, body_of, block_of}
 -- what is added to n modulo 4,294,967,296 gives zero
 pub negate : (r n : ℕ) → r < 4294967296 → n < 4294967296 → (r + n) % 4294967296 ≡ 0 → r ≡ (4294967296 - n) % 4294967296
 negate r n hr hn h = omega arith
+
+-- words that are zero add nothing: the first n give the sum of all 127
+pub sum_of_first : (l : List ℕ) (n : ℕ) → n ≤ 127 → zeros l (4 * n) (508 - 4 * n) ≡ true → word_sum l n ≡ word_sum l 127
+sum_of_first l n h z =
+    let e : 508 - 4 * n ≡ 4 * (127 - n) = omega arith in
+    let m : n + (127 - n) ≡ 127 = omega arith in
+    sym (word_sum_zeros l n (127 - n) (ap (zeros l (4 * n)) (sym e) ∙ z)) ∙ ap (word_sum l) m
 
 last_word_over : (p d : List ℕ) → length p ≡ 508 → last_word (over p d) ≡ last_word p
 unfolding last_word over

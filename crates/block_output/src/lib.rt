@@ -1,8 +1,9 @@
 // Puts one block into the first 512 bytes of what is lent: header, contaminant, result, summary.
-#![tactic(auto)]
+#![tactic(auto, using(words::proofs::ReadBack::zeros_placed))]
 
-ghost use Rattle.std.specs.Prelude.{◌≡◌, ◌≤◌, length};
+ghost use Rattle.std.specs.Prelude.{◌≡◌, ◌≤◌, ◌*◌, ◌-◌, true, length};
 ghost use Rattle.block_rules.specs.Rules.{block_size};
+ghost use Rattle.words.specs.Words.{zeros};
 ghost use Rattle.words.specs.Bytes.{placed, le4, over};
 ghost use Rattle.block_rules.specs.Layouts.{last_word, first_words, header_block, contaminant_block, result_block, summary_block};
 
@@ -11,12 +12,12 @@ use guideline_rules::SideGuidelines;
 use inputs::Contaminant;
 use sum_rules::SideSums;
 
-// Writes the last word, so that all 128 words add to zero.
-fn put_last_word(out: &mut [u8])
-    requires { block_size ≤ length out.old }
+// Writes the last word, so that all 128 words add to zero. From the n-th on the words are zero, so that the first n give the sum.
+fn put_last_word(out: &mut [u8], n: usize)
+    requires { (block_size ≤ length out.old) × (n ≤ 127) × (zeros out.old (4 * n) (508 - 4 * n) ≡ true) }
     ensures { out.new ≡ placed out.old 508 (le4 (last_word out.old)) }
 {
-    let sum = words::sum(out, 127);
+    let sum = words::sum(out, n);
     words::put(out, 508, std::num::wrapping_sub_u32(0, sum));
 }
 
@@ -42,7 +43,7 @@ pub fn put_header(out: &mut [u8], h: Header)
     fields::put_all(out, 48, s.contact.into());
     fields::put_all(out, 96, s.targets.into());
     words::clear(out, 112, 396);
-    put_last_word(out);
+    put_last_word(out, 28);
 }
 
 // Writes a block of kind 2.
@@ -55,7 +56,7 @@ pub fn put_contaminant(out: &mut [u8], place: u32, r: Contaminant)
     fields::put_all(out, 56, r.transfer.into());
     fields::put(out, 72, r.c);
     words::clear(out, 80, 428);
-    put_last_word(out);
+    put_last_word(out, 20);
 }
 
 // Writes a block of kind 3: the guidelines of risk by pathway and in total, then those of hazard.
@@ -78,7 +79,7 @@ pub fn put_result(
         [hazard.first, hazard.second, hazard.third, hazard.total],
     );
     words::clear(out, 80, 428);
-    put_last_word(out);
+    put_last_word(out, 20);
 }
 
 // Writes a block of kind 4: the sums of risk, those of hazard, and the two verdicts.
@@ -97,5 +98,5 @@ pub fn put_summary(out: &mut [u8], risk: SideSums, hazard: SideSums)
     words::put(out, 48, sums::verdict_number(r));
     words::put(out, 52, sums::verdict_number(h));
     words::clear(out, 56, 452);
-    put_last_word(out);
+    put_last_word(out, 14);
 }

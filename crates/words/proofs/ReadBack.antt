@@ -3,8 +3,9 @@
 use Rattle.std.proofs.Common.{◌≡◌, ℕ, zero, suc, ◌+◌, ◌*◌, ◌<◌, ◌≤◌, true, List, ◌++◌, length, get_or, drop, replicate, sym, refl, ap, ◌∙◌, add-zero, arith, get_or-drop, drop-drop, drop_at, eq-eqb}
 use lib.ListN.{length-replicate, get_or-append, get_or-replicate}
 use Rattle.words.specs.Words.{word_at, zeros}
-use Rattle.words.specs.Bytes.{le4}
+use Rattle.words.specs.Bytes.{le4, placed}
 use Rattle.words.proofs.Words.{four_bytes}
+use Rattle.words.proofs.Written.{placed_rest}
 
 pub rest_next : (b w r : List ℕ) (at k : ℕ) → drop at b ≡ w ++ r → length w ≡ k → drop (at + k) b ≡ r
 rest_next b w r at k e n = sym (drop-drop k at b) ∙ ap (drop k) e ∙ drop_at w r k n
@@ -29,3 +30,8 @@ zeros_rest b r at n (suc m) e h =
     get_or_rest b (replicate n 0 ++ r) at m e
     ∙ get_or-append (replicate n 0) r 0 m (simp length-replicate (omega arith)) ∙ get_or-replicate n m 0 0 (omega arith) in
     rw (zeros_rest b r at n m e (omega arith)) (eq-eqb (get_or b (at + m) 0) 0 z)
+
+-- the zero bytes that `words::clear` wrote
+pub zeros_placed : (l l' : List ℕ) (at n : ℕ) → at ≤ length l → l' ≡ placed l at (replicate n 0) → zeros l' at n ≡ true
+zeros_placed l l' at n h e =
+    zeros_rest l' (drop (at + length (replicate {A = ℕ} n 0)) l) at n n (ap (drop at) e ∙ placed_rest l (replicate n 0) at h) (omega arith)

@@ -1,8 +1,9 @@
--- Sums of words, one more at a time; the words of a front; the four bytes of a word. Assumes nothing.
-use Rattle.std.proofs.Common.{◌≡◌, ℕ, zero, suc, ◌+◌, ◌*◌, ◌/◌, ◌%◌, ◌<◌, ◌≤◌, List, ◌++◌, length, get_or, sym, refl, ap, ◌∙◌, ap₂, mod-eq_of_lt, add-one, arith}
+-- Sums of words, one more at a time; the words of a front; words of zero bytes; the four bytes of a word. Assumes nothing.
+use Rattle.std.proofs.Common.{◌≡◌, ℕ, zero, suc, ◌+◌, ◌*◌, ◌/◌, ◌%◌, ◌<◌, ◌≤◌, true, List, ◌++◌, length, get_or, eqb, sym, refl, ap, ◌∙◌, ap₂, mod-eq_of_lt, add-zero, add-one, arith, eqb-true}
+use Rattle.std.proofs.lemmas.Bool.{and_parts}
 use native.Mathlib.Nat.{mod-add-mod, div-div-eq-div-mul, div-add-mod}
 use lib.ListN.{get_or-append}
-use Rattle.words.specs.Words.{word_at, word_sum}
+use Rattle.words.specs.Words.{word_at, word_sum, zeros}
 use Rattle.words.specs.Bytes.{le4}
 
 pub le4_length : (v : ℕ) → length (le4 v) ≡ 4
@@ -31,6 +32,37 @@ pub word_sum_front : (p t : List ℕ) (n : ℕ) → 4 * n ≤ length p → word_
 unfolding word_sum
 word_sum_front p t zero h = refl
 word_sum_front p t (suc n) h = ap₂ (λ (x y : ℕ). x + y) (word_sum_front p t n (omega arith)) (word_front p t (4 * n) (omega arith))
+
+-- ---- words of zero bytes add nothing to a sum
+byte_zero : (s : List ℕ) (i j : ℕ) → i ≡ j → eqb (get_or s i 0) 0 ≡ true → get_or s j 0 ≡ 0
+byte_zero s i j e h = ap (λ (k : ℕ). get_or s k 0) (sym e) ∙ eqb-true (get_or s i 0) 0 h
+
+-- four zero bytes behind n others are a word that is zero
+four_zeros : (s : List ℕ) (at n : ℕ) → zeros s at (suc (suc (suc (suc n)))) ≡ true → (zeros s at n ≡ true) × (word_at s (at + n) ≡ 0)
+unfolding zeros word_at
+four_zeros s at n h =
+    let d = and_parts _ _ h in
+    let c = and_parts _ _ d.0 in
+    let b = and_parts _ _ c.0 in
+    let a = and_parts _ _ b.0 in (
+      a.0,
+      omega (
+        arith,
+        byte_zero s (at + n) (at + n) refl a.1,
+        byte_zero s (at + suc n) (at + n + 1) (omega arith) b.1,
+        byte_zero s (at + suc (suc n)) (at + n + 2) (omega arith) c.1,
+        byte_zero s (at + suc (suc (suc n))) (at + n + 3) (omega arith) d.1,
+      ),
+    )
+
+pub word_sum_zeros : (s : List ℕ) (n k : ℕ) → zeros s (4 * n) (4 * k) ≡ true → word_sum s (n + k) ≡ word_sum s n
+word_sum_zeros s n zero h = ap (word_sum s) (add-zero n)
+word_sum_zeros s n (suc k) h =
+    let e : suc (suc (suc (suc (4 * k)))) ≡ 4 * suc k = omega arith in
+    let z = four_zeros s (4 * n) (4 * k) (ap (zeros s (4 * n)) e ∙ h) in
+    let w : word_at s (4 * (n + k)) ≡ word_at s (4 * n + 4 * k) = ap (word_at s) (omega arith) in
+    let next : n + suc k ≡ suc (n + k) = omega arith in
+    ap (word_sum s) next ∙ word_sum_suc s (n + k) ∙ omega (arith, w, z.1, word_sum_zeros s n k z.0)
 
 -- ---- a word is spelt by its four bytes
 digits : (v q₁ q₂ q₃ r₁ r₂ r₃ r₄ : ℕ) → 256 * q₁ + r₁ ≡ v → 256 * q₂ + r₂ ≡ q₁ → 256 * q₃ + r₃ ≡ q₂ → r₄ ≡ q₃

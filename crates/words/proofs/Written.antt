@@ -9,6 +9,11 @@ pub placed_length : (l w : List ℕ) (at : ℕ) → at + length w ≤ length l �
 unfolding placed
 placed_length l w at h = simp (length-append, length-drop) (omega (arith, length-take-le at l (omega arith)))
 
+-- from `at` on stand the bytes written, and after them those of l
+pub placed_rest : (l w : List ℕ) (at : ℕ) → at ≤ length l → drop at (placed l at w) ≡ w ++ drop (at + length w) l
+unfolding placed
+placed_rest l w at h = drop_at (take at l) (w ++ drop (at + length w) l) at (length-take-le at l h)
+
 pub placed_none : (l : List ℕ) (at : ℕ) → at ≤ length l → l ≡ placed l at []
 unfolding placed
 placed_none l at h = sym (take-append-drop at l) ∙ ap (λ (n : ℕ). take at l ++ drop n l) (sym (add-zero at))

@@ -2,7 +2,7 @@
 use Rattle.std.proofs.Common.{ℕ, ◌-◌, ◌%◌, ap, ◌∙◌, arith}
 use Rattle.words.specs.Bytes.{placed, le4}
 use Rattle.block_rules.specs.Layouts.{last_word}
-use Rattle.block_output.proofs.Blocks.{negate}
+use Rattle.block_output.proofs.Blocks.{negate, sum_of_first}
 use Rattle.block_output.proofs.put_last_word.Goals as goal
 
 pub returns : goal.returns
@@ -10,4 +10,5 @@ unfolding last_word
 returns c =
     c.put.ensures ∙ ap (λ (n : ℕ). placed c.args.out.now 508 (le4 n))
     (negate c.wrapping_sub_u32.result c.sum-sum.result (omega arith) (omega arith) c.wrapping_sub_u32.ensures.value
-    ∙ ap (λ (n : ℕ). (4294967296 - n) % 4294967296) c.sum-sum.ensures)
+    ∙ ap (λ (n : ℕ). (4294967296 - n) % 4294967296) c.sum-sum.ensures
+    ∙ ap (λ (n : ℕ). (4294967296 - n % 4294967296) % 4294967296) (sum_of_first c.args.out.now c.args.n c.requires.1 c.requires.2))
