@@ -1,5 +1,5 @@
 -- Reading what the writer of kind 2 wrote gives the same contaminant, each decimal with the same m and the same e. Assumes nothing.
-use mathlib.Core.Path.{◌≡◌, refl, ap, ◌∙◌, sym}
+use mathlib.Core.Path.{◌≡◌, refl, ap, ◌∙◌}
 use mathlib.Core.List.{List}
 use mathlib.Core.Bool.{true, ◌&&◌, not, cond}
 use Prim.Native.Nat.{ℕ, ◌<◌}
@@ -22,8 +22,7 @@ use Rattle.fields.proofs.ReadBack.{all_fit}
 use Rattle.block_rules.specs.Rules.{in_file}
 use Rattle.block_rules.specs.Pieces.{contaminant_pieces, unused_bytes}
 use Rattle.block_rules.specs.Reading.{contaminant_at, contaminant_unused, sound_at, contaminant_read}
-use Rattle.block_rules.proofs.Found.{passed}
-use Rattle.outcome.proofs.Numbers.{not_both}
+use Rattle.outcome.proofs.Tests.{passed}
 use Rattle.std.specs.Prelude.{Result, Ok, Err, ⊤}
 use Rattle.block_rules.proofs.Rules.{in_file_lem, at_most_two}
 use Rattle.block_rules.specs.Layouts.{unused_of, contaminant_block}
@@ -100,8 +99,8 @@ module _ (place previous : ℕ) (r : Contaminant) (fit : contaminant_fit place r
 accepted_fits : (room place : ℕ) (r : Contaminant) → contaminant_refusal room place r ≡ Ok tt → contaminant_fit place r ≡ true
 unfolding contaminant_refusal
 accepted_fits room place r e =
-    let e₁ = (passed (ltb room 512) (Err Room) _ (Ok tt) (λ z. not_both (sym z)) e).1 in
-    not-false _ (passed (not (contaminant_fit place r)) (Err Field) (Ok tt) (Ok tt) (λ z. not_both (sym z)) e₁).0
+    let e₁ = (passed (ltb room 512) Room e).1 in
+    not-false _ (passed (not (contaminant_fit place r)) Field e₁).0
 
 pub contaminant_call_back : (out : List ℕ) (place previous : ℕ) (r : Contaminant) → contaminant_refusal (length out) place r ≡ Ok tt → r.id < 4294967296 → previous < r.id
     → contaminant_read (part_of (contaminant_left out place r) 0 512) place previous ≡ Ok r

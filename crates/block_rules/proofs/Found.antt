@@ -11,7 +11,8 @@ use Rattle.outcome.specs.declared.Refusal.{Refusal}
 use Rattle.outcome.specs.declared.Refusal.TheVariants.{Length, Check, Kind, Field, Count, Factor, Order}
 use Rattle.std.specs.Prelude.{Result, Ok, Err}
 use Rattle.outcome.specs.Outcome.{refusal_number, tests_number}
-use Rattle.outcome.proofs.Numbers.{not_both, refusal_numbered}
+use Rattle.outcome.proofs.Numbers.{not_both, same_error, refusal_numbered}
+use Rattle.outcome.proofs.Tests.{passed}
 use Rattle.words.specs.Words.{word_at}
 use Rattle.inputs.specs.declared.Contaminant.{Contaminant}
 use Rattle.inputs.specs.Inputs.{contaminant_of}
@@ -22,15 +23,7 @@ use Rattle.block_rules.specs.Rules.{count_ok}
 use Rattle.block_rules.specs.Reading.{scenario_at, header_at, header_unused, contaminant_at, contaminant_unused, sound_at}
 use Rattle.block_rules.specs.Reading.{header_read, contaminant_read, header_value, contaminant_value}
 
--- where a test's answer is not what was sent back, the test was false
-pub passed : {A : Type 0} (t : Bool) (x y z : A) → (x ≡ z → ⊥) → cond t x y ≡ z → (t ≡ false) × (y ≡ z)
-passed true x y z n e = absurd (n e)
-passed false x y z n e = (refl, e)
-
 -- ---- a contaminant
-other : (x : Refusal) (r : Contaminant) → Err x ≡ Ok r → ⊥
-other x r e = not_both (sym e)
-
 pub record ContaminantFacts (b : List ℕ) (previous : ℕ) (r : Contaminant) : Type 0 where
   pub is : r ≡ contaminant_at b 8
   pub valid : contaminant_fits r ≡ true
@@ -39,11 +32,11 @@ pub record ContaminantFacts (b : List ℕ) (previous : ℕ) (r : Contaminant) : 
 pub contaminant_facts : (b : List ℕ) (place previous : ℕ) (r : Contaminant) → contaminant_read b place previous ≡ Ok r → ContaminantFacts b previous r
 unfolding contaminant_read contaminant_at contaminant_of
 contaminant_facts b place previous r e =
-    let e₁ = (passed (not (eqb (length b) 512)) (Err Length) _ (Ok r) (other Length r) e).1 in
-    let e₂ = (passed (not (sound_at b place)) (Err Check) _ (Ok r) (other Check r) e₁).1 in
-    let e₃ = (passed (not (eqb (word_at b 0) 2)) (Err Kind) _ (Ok r) (other Kind r) e₂).1 in
-    let e₄ = passed (not (contaminant_fits (contaminant_at b 8) && contaminant_unused b 8)) (Err Field) _ (Ok r) (other Field r) e₃ in
-    let e₅ = passed (leb (word_at b 12) previous) (Err Order) (Ok (contaminant_at b 8)) (Ok r) (other Order r) e₄.1 in
+    let e₁ = (passed (not (eqb (length b) 512)) Length e).1 in
+    let e₂ = (passed (not (sound_at b place)) Check e₁).1 in
+    let e₃ = (passed (not (eqb (word_at b 0) 2)) Kind e₂).1 in
+    let e₄ = passed (not (contaminant_fits (contaminant_at b 8) && contaminant_unused b 8)) Field e₃ in
+    let e₅ = passed (leb (word_at b 12) previous) Order e₄.1 in
     let same : contaminant_at b 8 ≡ r = cc e₅.1 in
     record {
       is = sym same;
@@ -52,9 +45,6 @@ contaminant_facts b place previous r e =
     }
 
 -- ---- a header
-not_header : (x : Refusal) (h : Header) → Err x ≡ Ok h → ⊥
-not_header x h e = not_both (sym e)
-
 pub record HeaderFacts (b : List ℕ) (blocks : ℕ) (h : Header) : Type 0 where
   pub is : h ≡ header_at b 8
   pub valid : scenario_fits h.scenario h.medium ≡ true
@@ -64,12 +54,12 @@ pub record HeaderFacts (b : List ℕ) (blocks : ℕ) (h : Header) : Type 0 where
 pub header_facts : (b : List ℕ) (blocks : ℕ) (h : Header) → header_read b blocks ≡ Ok h → HeaderFacts b blocks h
 unfolding header_read header_at
 header_facts b blocks h e =
-    let e₁ = (passed (not (eqb (length b) 512)) (Err Length) _ (Ok h) (not_header Length h) e).1 in
-    let e₂ = (passed (not (sound_at b 0)) (Err Check) _ (Ok h) (not_header Check h) e₁).1 in
-    let e₃ = (passed (not (eqb (word_at b 0) 1)) (Err Kind) _ (Ok h) (not_header Kind h) e₂).1 in
-    let e₄ = passed (not (scenario_fits (scenario_at b 16) (word_at b 8) && header_unused b 8)) (Err Field) _ (Ok h) (not_header Field h) e₃ in
-    let e₅ = passed (not (count_ok (word_at b 12) blocks)) (Err Count) _ (Ok h) (not_header Count h) e₄.1 in
-    let e₆ = passed (lacks_factor (scenario_at b 16)) (Err Factor) (Ok (header_at b 8)) (Ok h) (not_header Factor h) e₅.1 in
+    let e₁ = (passed (not (eqb (length b) 512)) Length e).1 in
+    let e₂ = (passed (not (sound_at b 0)) Check e₁).1 in
+    let e₃ = (passed (not (eqb (word_at b 0) 1)) Kind e₂).1 in
+    let e₄ = passed (not (scenario_fits (scenario_at b 16) (word_at b 8) && header_unused b 8)) Field e₃ in
+    let e₅ = passed (not (count_ok (word_at b 12) blocks)) Count e₄.1 in
+    let e₆ = passed (lacks_factor (scenario_at b 16)) Factor e₅.1 in
     let same : header_at b 8 ≡ h = cc e₆.1 in
     record {
       is = sym same;
@@ -84,36 +74,31 @@ pub record Sent (n : Refusal) : Type 0 where
   pub most : refusal_number n ≤ 7
 
 -- the refusal of the first test that holds, or one of the rest
-sent_first : {A : Type 0} (refusal : Refusal → A) → ((x y : Refusal) → refusal x ≡ refusal y → x ≡ y) → (t : Bool) (x : Refusal) (rest : A) → Sent x →
-    ((y : Refusal) → rest ≡ refusal y → Sent y) → (y : Refusal) → cond t (refusal x) rest ≡ refusal y → Sent y
-sent_first refusal same true x rest n k y e = subst Sent (same x y e) n
-sent_first refusal same false x rest n k y e = k y e
-
-same_refusal : {A : Type 0} (x y : Refusal) → ◌≡◌ {A = Result A Refusal} (Err x) (Err y) → x ≡ y
-same_refusal x y e = cc
+sent_first : {A : Type 0} (t : Bool) (x : Refusal) (rest : Result A Refusal) → Sent x → ((y : Refusal) → rest ≡ Err y → Sent y) →
+    (y : Refusal) → cond t (Err x) rest ≡ Err y → Sent y
+sent_first true x rest n k y e = subst Sent (same_error e) n
+sent_first false x rest n k y e = k y e
 
 pub contaminant_sent : (b : List ℕ) (place previous : ℕ) (y : Refusal) → contaminant_read b place previous ≡ Err y → Sent y
 unfolding contaminant_read
 contaminant_sent b place previous =
-    let by = sent_first Err same_refusal in
-    by (not (eqb (length b) 512)) Length _ (record { least = omega arith; most = omega arith })
-    (by (not (sound_at b place)) Check _ (record { least = omega arith; most = omega arith })
-    (by (not (eqb (word_at b 0) 2)) Kind _ (record { least = omega arith; most = omega arith })
-    (by (not (contaminant_fits (contaminant_at b 8) && contaminant_unused b 8)) Field _ (record { least = omega arith; most = omega arith })
-    (by (leb (word_at b 12) previous) Order (Ok (contaminant_at b 8)) (record { least = omega arith; most = omega arith })
-    (λ y e. absurd (other y (contaminant_at b 8) (sym e)))))))
+    sent_first (not (eqb (length b) 512)) Length _ (record { least = omega arith; most = omega arith })
+    (sent_first (not (sound_at b place)) Check _ (record { least = omega arith; most = omega arith })
+    (sent_first (not (eqb (word_at b 0) 2)) Kind _ (record { least = omega arith; most = omega arith })
+    (sent_first (not (contaminant_fits (contaminant_at b 8) && contaminant_unused b 8)) Field _ (record { least = omega arith; most = omega arith })
+    (sent_first (leb (word_at b 12) previous) Order (Ok (contaminant_at b 8)) (record { least = omega arith; most = omega arith })
+    (λ y e. absurd (not_both e))))))
 
 pub header_sent : (b : List ℕ) (blocks : ℕ) (y : Refusal) → header_read b blocks ≡ Err y → Sent y
 unfolding header_read
 header_sent b blocks =
-    let by = sent_first Err same_refusal in
-    by (not (eqb (length b) 512)) Length _ (record { least = omega arith; most = omega arith })
-    (by (not (sound_at b 0)) Check _ (record { least = omega arith; most = omega arith })
-    (by (not (eqb (word_at b 0) 1)) Kind _ (record { least = omega arith; most = omega arith })
-    (by (not (scenario_fits (scenario_at b 16) (word_at b 8) && header_unused b 8)) Field _ (record { least = omega arith; most = omega arith })
-    (by (not (count_ok (word_at b 12) blocks)) Count _ (record { least = omega arith; most = omega arith })
-    (by (lacks_factor (scenario_at b 16)) Factor (Ok (header_at b 8)) (record { least = omega arith; most = omega arith })
-    (λ y e. absurd (not_header y (header_at b 8) (sym e))))))))
+    sent_first (not (eqb (length b) 512)) Length _ (record { least = omega arith; most = omega arith })
+    (sent_first (not (sound_at b 0)) Check _ (record { least = omega arith; most = omega arith })
+    (sent_first (not (eqb (word_at b 0) 1)) Kind _ (record { least = omega arith; most = omega arith })
+    (sent_first (not (scenario_fits (scenario_at b 16) (word_at b 8) && header_unused b 8)) Field _ (record { least = omega arith; most = omega arith })
+    (sent_first (not (count_ok (word_at b 12) blocks)) Count _ (record { least = omega arith; most = omega arith })
+    (sent_first (lacks_factor (scenario_at b 16)) Factor (Ok (header_at b 8)) (record { least = omega arith; most = omega arith })
+    (λ y e. absurd (not_both e)))))))
 
 -- so its number is never 0
 pub contaminant_refused : (b : List ℕ) (place previous : ℕ) (y : Refusal) → contaminant_read b place previous ≡ Err y → refusal_number y ≡ 0 → ⊥

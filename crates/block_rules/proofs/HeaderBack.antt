@@ -1,5 +1,5 @@
 -- Reading what the writer of kind 1 wrote gives the same header, each decimal with the same m and the same e. Assumes nothing.
-use mathlib.Core.Path.{◌≡◌, refl, ap, ap₂, ◌∙◌, sym}
+use mathlib.Core.Path.{◌≡◌, refl, ap, ap₂, ◌∙◌}
 use mathlib.Core.List.{List}
 use mathlib.Core.Bool.{Bool, true, false, ◌&&◌, not}
 use Prim.Native.Nat.{ℕ, ◌+◌}
@@ -24,9 +24,8 @@ use Rattle.block_rules.specs.declared.Header.{Header}
 use Rattle.block_rules.specs.Rules.{in_file, count_ok}
 use Rattle.block_rules.specs.Pieces.{header_pieces, unused_bytes}
 use Rattle.block_rules.specs.Reading.{scenario_at, header_at, header_unused, sound_at, header_read}
-use Rattle.block_rules.proofs.Found.{passed}
-use Rattle.outcome.proofs.Numbers.{not_both}
-use Rattle.std.specs.Prelude.{Result, Ok, Err, ⊤}
+use Rattle.outcome.proofs.Tests.{passed}
+use Rattle.std.specs.Prelude.{Result, Ok, ⊤}
 use Rattle.block_rules.proofs.Rules.{in_file_lem, at_most_two}
 use Rattle.block_rules.specs.Layouts.{unused_of, header_block}
 use Rattle.block_rules.specs.Answers.{header_fit, header_refusal, left_by, header_left}
@@ -119,10 +118,10 @@ accepted_fits : (room : ℕ) (h : Header) → header_refusal room h ≡ Ok tt �
 unfolding header_refusal header_fit
 accepted_fits room h e =
     let s = h.scenario in
-    let e₁ = (passed (ltb room 512) (Err Room) _ (Ok tt) (λ z. not_both (sym z)) e).1 in
-    let e₂ = passed (not (in_file h.count)) (Err Field) _ (Ok tt) (λ z. not_both (sym z)) e₁ in
-    let e₃ = passed (not (scenario_fits s h.medium)) (Err Field) _ (Ok tt) (λ z. not_both (sym z)) e₂.1 in
-    let lacks = (passed (lacks_factor s) (Err Factor) (Ok tt) (Ok tt) (λ z. not_both (sym z)) e₃.1).0 in
+    let e₁ = (passed (ltb room 512) Room e).1 in
+    let e₂ = passed (not (in_file h.count)) Field e₁ in
+    let e₃ = passed (not (scenario_fits s h.medium)) Field e₂.1 in
+    let lacks = (passed (lacks_factor s) Factor e₃.1).0 in
     (rw (not-false (in_file h.count) e₂.0, not-false (scenario_fits s h.medium) e₃.0), lacks)
 
 pub header_call_back : (out : List ℕ) (h : Header) → header_refusal (length out) h ≡ Ok tt →

@@ -11,10 +11,11 @@ use inputs::{Contaminant, MOST_CONTAMINANTS, Scenario};
 use outcome::Refusal;
 
 // Whether a count or a place is from 1 to 120.
+#[tactic(auto, unfolding(block_rules::specs::Rules::in_file))]
 pub fn in_file(n: u32) -> bool
     ensures { result ≡ in_file n }
 {
-    inputs::both(1 <= n, n <= MOST_CONTAMINANTS)
+    (1 <= n) & (n <= MOST_CONTAMINANTS)
 }
 
 // Whether the count is from 1 to 120 and one less than the number of blocks.
@@ -45,7 +46,7 @@ fn sound(block: &[u8], place: u32) -> bool
 {
     let sum = words::sum(block, 128);
     let found = words::word(block, 4);
-    inputs::both(sum == 0, found == place)
+    (sum == 0) & (found == place)
 }
 
 // The scenario whose first decimal stands at `at`.
@@ -77,10 +78,7 @@ pub fn header_unused(part: &[u8], at: usize) -> bool
     requires { at + struct_size ≤ length part.now }
     ensures { result ≡ header_unused part.now at }
 {
-    inputs::both(
-        fields::unused_zero(part, at + 8, 12),
-        words::all_zero(part, at + 104, 396),
-    )
+    fields::unused_zero(part, at + 8, 12) & words::all_zero(part, at + 104, 396)
 }
 
 // The contaminant whose class stands at `at`: in the 504 bytes between kind and last word at 4, in a struct of C at 0.
@@ -102,10 +100,7 @@ pub fn contaminant_unused(part: &[u8], at: usize) -> bool
     requires { at + struct_size ≤ length part.now }
     ensures { result ≡ contaminant_unused part.now at }
 {
-    inputs::both(
-        fields::unused_zero(part, at + 8, 8),
-        words::all_zero(part, at + 72, 428),
-    )
+    fields::unused_zero(part, at + 8, 8) & words::all_zero(part, at + 72, 428)
 }
 
 // The header of a site of so many blocks: its first 512 bytes.
@@ -124,7 +119,8 @@ pub fn read_header(site: &[u8], blocks: u32) -> Result<Header, Refusal>
     let part = &site[4..508];
     let h = get_header(part, 4);
     let s = h.scenario;
-    if !inputs::both(inputs::scenario_fits(s, h.medium), header_unused(part, 4)) {
+    let fit = inputs::scenario_fits(s, h.medium) & header_unused(part, 4);
+    if !fit {
         return Err(Refusal::Field);
     }
     if !count_ok(h.count, blocks) {
@@ -159,7 +155,8 @@ pub fn read_contaminant(
     let to = at + 508;
     let part = &site[from..to];
     let r = get_contaminant(part, 4);
-    if !inputs::both(inputs::contaminant_fits(r), contaminant_unused(part, 4)) {
+    let fit = inputs::contaminant_fits(r) & contaminant_unused(part, 4);
+    if !fit {
         return Err(Refusal::Field);
     }
     if r.id <= previous {

@@ -1,2 +1,3 @@
 pub mod Stands
 pub mod Prepared
+pub mod OneProof

@@ -11,8 +11,8 @@ ghost use Rattle.guideline_rules.proofs.Accepted.{Accepted};
 ghost use Rattle.guideline_rules.specs.Guideline.{worked_out, guideline_of};
 
 use guideline_rules::{Guidelines, SideGuidelines};
-use inputs::{Contaminant, Scenario, both, contaminant_fits, scenario_refusal};
-use outcome::{Refusal, Refused, in_block};
+use inputs::{Class, Contaminant, Medium, Scenario, contaminant_fits, scenario_refusal};
+use outcome::{Refusal, Refused, located};
 use presence::record_refusal;
 use rounding::{BIAS, Direction, Number};
 use terms::pathways::{PathwayTerms, Terms};
@@ -79,16 +79,16 @@ pub fn columns_of(tr: Number, thi: Number, t: Terms) -> Columns
 fn ranged(r: Number) -> bool
     ensures { result ≡ ranged_of r }
 {
-    both(BELOW < r.x, r.x < ABOVE)
+    (BELOW < r.x) & (r.x < ABOVE)
 }
 
 // Whether the terms of a side, their sum and its guidelines are in range.
 fn column_ranged(t: PathwayTerms, c: Column) -> bool
     ensures { result ≡ column_ranged t c }
 {
-    let terms = both(ranged(t.first), both(ranged(t.second), ranged(t.third)));
-    let pathways = both(ranged(c.first), both(ranged(c.second), ranged(c.third)));
-    both(terms, both(pathways, both(ranged(c.total), ranged(c.sum))))
+    let terms = ranged(t.first) & ranged(t.second) & ranged(t.third);
+    let pathways = ranged(c.first) & ranged(c.second) & ranged(c.third);
+    terms & pathways & ranged(c.total) & ranged(c.sum)
 }
 
 // The guidelines of a side as decimals.
@@ -109,17 +109,16 @@ fn worked_out(s: Scenario, medium: u32, r: Contaminant) -> Result<Guidelines, Re
     requires { Accepted s medium r }
     ensures { result ≡ worked_out s medium r }
 {
+    let medium = Medium::of(medium);
+    let class = Class::of(r.class);
     let f = factors::numbers::scenario_numbers(s);
     let p = factors::prepared::prepare(f, Direction::Up);
     let t = factors::numbers::contaminant_numbers(r);
-    let side = terms::pathways::terms_of(p, t, medium, r.class, Direction::Up);
+    let side = terms::pathways::terms_of(p, t, medium, class, Direction::Up);
     let columns = columns_of(f.targets.tr, f.targets.thi, side);
     let risk = columns.risk;
     let hazard = columns.hazard;
-    if both(
-        column_ranged(side.risk, risk),
-        column_ranged(side.hazard, hazard),
-    ) {
+    if column_ranged(side.risk, risk) & column_ranged(side.hazard, hazard) {
         return Ok(Guidelines {
             risk: decimals(risk),
             hazard: decimals(hazard),
@@ -133,10 +132,10 @@ fn worked_out(s: Scenario, medium: u32, r: Contaminant) -> Result<Guidelines, Re
 pub fn guideline(s: Scenario, medium: u32, r: Contaminant) -> Result<Guidelines, Refused>
     ensures { result ≡ guideline_of s medium r }
 {
-    in_block(scenario_refusal(s, medium), 0)?;
+    located(scenario_refusal(s, medium), 0)?;
     if !contaminant_fits(r) {
         return Err(Refusal::Field.in_block(1));
     }
-    in_block(record_refusal(s, medium, r), 1)?;
+    located(record_refusal(s, medium, r), 1)?;
     worked_out(s, medium, r)
 }

@@ -1,11 +1,12 @@
 // A land-use scenario and a contaminant record, as a file or a caller gives them.
 #![tactic(auto)]
 
-ghost use Rattle.std.specs.Prelude.{◌&&◌, ◌≡◌};
+ghost use Rattle.std.specs.Prelude.{◌≡◌};
 ghost use Rattle.inputs.specs.BuiltIn.{built_in_of};
 ghost use Rattle.inputs.specs.Inputs.{exposure_decimals, contact_decimals, target_decimals, toxicity_decimals, transfer_decimals, scenario_decimals, contaminant_decimals};
-ghost use Rattle.inputs.specs.Rules.{one_or_two, scenario_fits, contaminant_fits, lacks_factor, scenario_refusal};
+ghost use Rattle.inputs.specs.Rules.{OneOrTwo, one_or_two, scenario_fits, contaminant_fits, lacks_factor, scenario_refusal};
 ghost use Rattle.inputs.specs.Valid.{valid_of, all_valid};
+ghost use Rattle.inputs.specs.Kinds.{medium_number, class_number};
 
 use decimal::Decimal;
 use outcome::{Refusal, Refused};
@@ -18,6 +19,46 @@ pub const MOST_CONTAMINANTS: u32 = 120;
 const LEAST: u64 = BIAS - 20;
 
 const GREATEST: u64 = BIAS + 20;
+
+// What a header's medium stands for: 1 soil, 2 water.
+#[derive(Clone, Copy)]
+pub enum Medium {
+    Soil,
+    Water,
+}
+
+// What a contaminant's class stands for: 1 chemical, 2 radionuclide.
+#[derive(Clone, Copy)]
+pub enum Class {
+    Chemical,
+    Radionuclide,
+}
+
+impl Medium {
+    // The medium of a number that keeps its rule.
+    pub fn of(n: u32) -> Medium
+        requires { OneOrTwo n }
+        ensures { medium_number result ≡ n }
+    {
+        if n == 1 {
+            return Medium::Soil;
+        }
+        Medium::Water
+    }
+}
+
+impl Class {
+    // The class of a number that keeps its rule.
+    pub fn of(n: u32) -> Class
+        requires { OneOrTwo n }
+        ensures { class_number result ≡ n }
+    {
+        if n == 2 {
+            return Class::Radionuclide;
+        }
+        Class::Chemical
+    }
+}
 
 // Zero means not known, or not part of this scenario, in every decimal below.
 // How often and how long, and of whom: exposure frequency, days per year; exposure duration, years; body weight, kg;
@@ -306,16 +347,6 @@ impl<T: Copy> From<Transfer<T>> for [T; 2] {
     }
 }
 
-// Both tests. No branch depends on them.
-pub fn both(a: bool, b: bool) -> bool
-    ensures { result ≡ a && b }
-{
-    if a {
-        return b;
-    }
-    false
-}
-
 // Whether a decimal keeps the rule of a file or record.
 pub fn valid(d: Decimal) -> bool
     ensures { result ≡ valid_of d }
@@ -364,10 +395,7 @@ pub fn valid_contaminant(r: Contaminant) -> bool
 pub fn one_or_two(n: u32) -> bool
     ensures { result ≡ one_or_two n }
 {
-    if n == 1 {
-        return true;
-    }
-    n == 2
+    matches!(n, 1 | 2)
 }
 
 // Whether the medium and the scenario's decimals keep their rules.

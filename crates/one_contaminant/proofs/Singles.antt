@@ -11,9 +11,9 @@ use Rattle.outcome.specs.declared.Refusal.TheVariants.{Field}
 use Rattle.decimal.specs.Decimal.{zero_of}
 use Rattle.std.specs.Prelude.{Result, Ok, Err, ⊤}
 use Rattle.outcome.specs.declared.Refused.{Refused}
-use Rattle.outcome.specs.Outcome.{number_of, refused, concerning, located, answered}
-use Rattle.outcome.proofs.Numbers.{not_both}
-use Rattle.outcome.proofs.Tests.{tests_refused, reader_value, refused_told}
+use Rattle.outcome.specs.Outcome.{number_of, refused, located, answered}
+use Rattle.outcome.proofs.Numbers.{not_both, same_error}
+use Rattle.outcome.proofs.Tests.{tests_refused, reader_value}
 use Rattle.inputs.specs.declared.Contaminant.{Contaminant}
 use Rattle.inputs.specs.Rules.{lacks_factor, contaminant_fits, scenario_refusal}
 use Rattle.words.specs.Bytes.{over}
@@ -65,7 +65,7 @@ module _ (h : Header) (r : Contaminant) where
 
     record_cases : (b : Bool) → contaminant_fits r ≡ b → {n : Refusal} → tested b ≡ Err n → guideline_of h.scenario h.medium r ≡ refused n 1
     unfolding guideline_of
-    record_cases false f {n} q = rw (scenario_kept, f) (ap (λ (x : Result ⊤ Refusal). Err (refused_told (concerning n 1) (located x 1))) q)
+    record_cases false f {n} q = rw (scenario_kept, f) (ap (λ (m : Refusal). refused m 1) (same_error q))
     record_cases true f q = absurd (not_both q)
 
     record_sent : {n : Refusal} → contaminant_refusal 512 1 r ≡ Err n → guideline_of h.scenario h.medium r ≡ refused n 1
@@ -116,7 +116,7 @@ module _ (h : Header) (r : Contaminant) where
           by : (x : Result ⊤ Refusal) → contaminant_refusal 512 1 r ≡ x → located x 0 ≡ Err e → guideline_of h.scenario h.medium r ≡ refused e.refusal 1
           by (Ok v) p q = absurd (not_both q)
           by (Err n) p q =
-              record_sent good.0 good.1 p ∙ ap (λ (x : Result ⊤ Refused). refused (refused_told e x).refusal 1) q
+              record_sent good.0 good.1 p ∙ ap (λ (x : Refused). refused x.refusal 1) (same_error q)
 
       -- or both were
       pub single_both : {v : ⊤} → Ok v ≡ contaminant_answer (length (take 512 (drop 512 l))) 1 r → {y : List ℕ} → y ≡ contaminant_left (take 512 (drop 512 l)) 1 r →
@@ -152,7 +152,7 @@ module _ {h : Header} {r : Contaminant} {site : List ℕ} (w : Written h r site)
     where
       by : (y : Result Guidelines Refused) → answered y ≡ Err x → y ≡ Err x
       by (Ok g) q = absurd (not_both q)
-      by (Err n) q = ap (λ (z : Result ⊤ Refused). Err (refused_told x z)) q
+      by (Err n) q = ap Err (same_error q)
 
   module _ {a : Sums} (f : b ≡ Ok a) {results : List ℕ} (left : results ≡ site_left site d) where
     there : number_of (site_answer single (length d)) ≡ 0

@@ -15,6 +15,9 @@ not_both {A} {E} h = subst (λ (x : Result A E). MatchResult x (λ _. ⊤) (λ _
 pub same_value : {A E : Type 0} {a b : A} → ◌≡◌ {A = Result A E} (Ok a) (Ok b) → a ≡ b
 same_value {A} {E} {a} h = ap (λ (x : Result A E). result_unwrap_or x a) h
 
+pub same_error : {A E : Type 0} {e f : E} → ◌≡◌ {A = Result A E} (Err e) (Err f) → e ≡ f
+same_error h = cc
+
 pub record Numbered (n : ℕ) : Type 0 where
   pub some : n ≡ 0 → ⊥
   pub most : n ≤ most_number

@@ -2,11 +2,12 @@
 -- test of the list, the number that is sent back keeps. Assumes nothing.
 use Rattle.std.proofs.Common.{◌≡◌, ℕ, List, [], ◌∷◌, refl, ap, sym, ◌∙◌}
 use Rattle.std.specs.Prelude.{Bool, true, false, cond, ◌&&◌, Result, Ok, Err, ⊤, IsErrAnd}
+use Rattle.std.specs.Result.{result_and}
 use mathlib.Core.Bool.{and-eq-true_iff}
 use Rattle.outcome.specs.declared.Refusal.{Refusal}
 use Rattle.outcome.specs.declared.Refused.{Refused}
 use Rattle.outcome.specs.Outcome.{Test, refusal_number, number_of, refused_by, refused, located, on_read, passing}
-use Rattle.outcome.proofs.Numbers.{not_both, same_value, refusal_numbered}
+use Rattle.outcome.proofs.Numbers.{not_both, same_value, same_error, refusal_numbered}
 
 abbrev pub all_numbers : (ℕ → Bool) → List Test → Bool
 all_numbers p [] = true
@@ -28,6 +29,11 @@ refused_number p (t ∷ ts) h n e =
     cases true f g e = ap (λ (x : Result ⊤ Refusal). p (refusal_number (told n x))) (sym e) ∙ f
     cases false f g e = g e
 
+-- ---- where a value is sent back, no test before it held
+pub passed : {A : Type 0} (t : Bool) (n : Refusal) {y : Result A Refusal} {a : A} → cond t (Err n) y ≡ Ok a → (t ≡ false) × (y ≡ Ok a)
+passed true n e = absurd (not_both (sym e))
+passed false n e = (refl, e)
+
 -- ---- an answer behind tests: one whose number the tests do not send back has passed them
 pub passing_other : {A : Type 0} (x : Result ⊤ Refusal) (k : ℕ) (a : Result A Refused) {m : ℕ} → ((n : Refusal) → x ≡ Err n → refusal_number n ≡ m → ⊥) →
     number_of (passing x k a) ≡ m → (x ≡ Ok tt) × (number_of a ≡ m)
@@ -43,31 +49,19 @@ pub handed_back : {A : Type 0} (x : Result A Refused) {r : Refused} → IsErrAnd
 handed_back (Ok a) h = absurd h
 handed_back (Err e) h = ap Err h
 
-abbrev pub refused_told : {A : Type 0} → Refused → Result A Refused → Refused
-refused_told d (Ok x) = d
-refused_told d (Err r) = r
-
-module _ {y x : Result ⊤ Refusal} (is : y ≡ x) (k : ℕ) where
-  pub tests_refused : {A : Type 0} (a : Result A Refused) {r : Refused} → located y k ≡ Err r → passing x k a ≡ Err r
-  tests_refused {A} a {r} h = by x (ap (λ (x : Result ⊤ Refusal). located x k) (sym is) ∙ h)
-    where
-      by : (x : Result ⊤ Refusal) → located x k ≡ Err r → passing x k a ≡ Err r
-      by (Ok u) e = absurd (not_both e)
-      by (Err n) e = ap (λ (x : Result ⊤ Refused). Err (refused_told r x)) e
-
-  pub tests_passed : {u : ⊤} → located y k ≡ Ok u → x ≡ Ok tt
-  tests_passed {u} h = by x (ap (λ (x : Result ⊤ Refusal). located x k) (sym is) ∙ h)
-    where
-      by : (x : Result ⊤ Refusal) → located x k ≡ Ok u → x ≡ Ok tt
-      by (Ok tt) e = refl
-      by (Err n) e = absurd (not_both (sym e))
-
--- ---- the same of a reader
-pub reader_refused : {A B : Type 0} (y : Result A Refusal) (k : ℕ) (g : A → Result B Refused) {r : Refused} → located y k ≡ Err r →
-    on_read y (λ (n : Refusal). refused n k) g ≡ Err r
-reader_refused (Ok a) k g e = absurd (not_both e)
-reader_refused {A} (Err n) k g {r} e = ap (λ (x : Result A Refused). Err (refused_told r x)) e
-
 pub reader_value : {A : Type 0} (y : Result A Refusal) (k : ℕ) {a : A} → located y k ≡ Ok a → y ≡ Ok a
 reader_value (Ok b) k e = ap Ok (same_value e)
 reader_value (Err n) k e = absurd (not_both (sym e))
+
+pub reader_refused : {A B : Type 0} (y : Result A Refusal) (k : ℕ) (g : A → Result B Refused) {r : Refused} → located y k ≡ Err r →
+    on_read y (λ (n : Refusal). refused n k) g ≡ Err r
+reader_refused (Ok a) k g e = absurd (not_both e)
+reader_refused (Err n) k g e = ap Err (same_error e)
+
+-- ---- the same of tests that have no value
+module _ {y x : Result ⊤ Refusal} (is : y ≡ x) (k : ℕ) where
+  pub tests_refused : {A : Type 0} (a : Result A Refused) {r : Refused} → located y k ≡ Err r → passing x k a ≡ Err r
+  tests_refused a h = ap (λ (t : Result ⊤ Refused). result_and t a) (ap (λ (t : Result ⊤ Refusal). located t k) (sym is) ∙ h)
+
+  pub tests_passed : {u : ⊤} → located y k ≡ Ok u → x ≡ Ok tt
+  tests_passed h = sym is ∙ reader_value y k h

@@ -1,6 +1,7 @@
 -- What is sent back (docs/SPECIFICATION.md, "What is sent back"): a value, or one of eleven refusals with the block that it concerns. The number and
 -- the block of each case: an accepted call has 0 and 0.
 use Rattle.std.specs.Prelude.{Bool, cond, List, [], ◌∷◌, ℕ, Result, Ok, Err, ⊤}
+use Rattle.std.specs.Result.{result_and}
 use Rattle.outcome.specs.declared.Refusal.{Refusal}
 use Rattle.outcome.specs.declared.Refused.{Refused}
 use Rattle.outcome.specs.declared.Refusal.TheVariants.{Length, Check, Kind, Field, Count, Factor, Order, Pathway, Range, Room, Scenario}
@@ -72,5 +73,4 @@ on_read (Ok a) f g = g a
 
 -- what tests of a block send back, or the answer that comes after them
 abbrev pub passing : {A : Type 0} → Result ⊤ Refusal → ℕ → Result A Refused → Result A Refused
-passing (Ok x) block a = a
-passing (Err n) block a = refused n block
+passing x block a = result_and (located x block) a

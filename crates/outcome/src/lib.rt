@@ -61,7 +61,7 @@ impl Refusal {
 }
 
 // What tests of a block answer, with that block where they refuse it.
-pub fn in_block<T: Copy>(tested: Result<T, Refusal>, block: u32) -> Result<T, Refused>
+pub fn located<T: Copy>(tested: Result<T, Refusal>, block: u32) -> Result<T, Refused>
     ensures { result ≡ located tested block }
 {
     match tested {

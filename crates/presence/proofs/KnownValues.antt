@@ -81,8 +81,12 @@ module _ (s : Scenario) (r : Contaminant) (h : Needed s) where
   abbrev air : Bool
   air = known_of s.contact.ira && (known_of r.transfer.vf || known_of s.contact.pef)
 
+  -- as the table has it, and as the code
   abbrev skin : Bool
   skin = known_of s.contact.sa && (known_of r.transfer.pc && known_of s.contact.et)
+
+  abbrev wet : Bool
+  wet = (known_of s.contact.sa && known_of r.transfer.pc) && known_of s.contact.et
 
   pub soil_chemical_lem : chemical_of r (known_of s.contact.ir) air ≡ either_known (known_values s r) 1 1
   unfolding known_values derived pathways_of table
@@ -94,17 +98,16 @@ module _ (s : Scenario) (r : Contaminant) (h : Needed s) where
   abbrev ingested : Bool
   ingested = known_of r.toxicity.sfo && known_of s.contact.ir
 
-  pub soil_radionuclide_lem : ingested ||
-      (known_of r.toxicity.sfi && (known_of s.contact.ira && known_of s.contact.pef) ||
-      known_of r.toxicity.sfx && (known_of s.contact.et && known_of s.contact.rf)) ≡ either_known (known_values s r) 1 2
+  pub soil_radionuclide_lem : (ingested || (known_of r.toxicity.sfi && known_of s.contact.ira) && known_of s.contact.pef) ||
+      (known_of r.toxicity.sfx && known_of s.contact.et) && known_of s.contact.rf ≡ either_known (known_values s r) 1 2
   unfolding known_values derived pathways_of table
-  soil_radionuclide_lem = rw (h.ef, h.ed) (simp (and-true, or-false, and_assoc))
+  soil_radionuclide_lem = rw (h.ef, h.ed) (simp (and-true, or-false, and_assoc, or_assoc))
 
-  pub water_chemical_lem : chemical_of r (known_of s.contact.ir || skin) (known_of s.contact.ira) ≡ either_known (known_values s r) 2 1
+  pub water_chemical_lem : chemical_of r (known_of s.contact.ir || wet) (known_of s.contact.ira) ≡ either_known (known_values s r) 2 1
   unfolding known_values derived pathways_of table
   water_chemical_lem =
       let x = r.toxicity in
-      rw (h.ef, h.ed, h.bw, h.at)
+      rw (and_assoc (known_of s.contact.sa) (known_of r.transfer.pc) (known_of s.contact.et), h.ef, h.ed, h.bw, h.at)
       (simp (and-true, or-false)
       (three_ways (known_of x.sfo) (known_of x.sfi) (known_of x.rfdo) (known_of x.rfdi) (known_of s.contact.ir) (known_of s.contact.ira) skin))
 

@@ -1,104 +1,51 @@
 // Whether a contaminant has a pathway, by which decimals are zero alone: no term is worked out.
 #![tactic(auto)]
 
-ghost use Rattle.std.specs.Prelude.{◌≡◌, ◌&&◌, ◌||◌};
-ghost use Rattle.guideline_rules.specs.Pathway.{either_side, record_refusal};
+ghost use Rattle.std.specs.Prelude.{◌≡◌};
+ghost use Rattle.guideline_rules.specs.Pathway.{record_refusal};
 ghost use Rattle.presence.specs.Presence.{known_values, either_known, chemical_of, Needed};
 ghost use Rattle.inputs.specs.Rules.{Checked};
+ghost use Rattle.inputs.specs.Kinds.{medium_number, class_number};
 
-use inputs::{Contaminant, Scenario, both};
+use inputs::{Class, Contaminant, Medium, Scenario};
 use outcome::Refusal;
-
-// One test or the other.
-pub fn either(a: bool, b: bool) -> bool
-    ensures { result ≡ a || b }
-{
-    if a {
-        return true;
-    }
-    b
-}
-
-// All three tests.
-fn all_three(a: bool, b: bool, c: bool) -> bool
-    ensures { result ≡ a && (b && c) }
-{
-    both(a, both(b, c))
-}
 
 // A chemical, by what is known of the ways into the body: with a slope factor (risk) or a reference dose (hazard).
 fn chemical(r: Contaminant, swallowed: bool, breathed: bool) -> bool
     ensures { result ≡ chemical_of r swallowed breathed }
 {
-    let oral = either(r.toxicity.sfo.m != 0, r.toxicity.rfdo.m != 0);
-    let inhaled = either(r.toxicity.sfi.m != 0, r.toxicity.rfdi.m != 0);
-    either(both(swallowed, oral), both(breathed, inhaled))
+    let oral = (r.toxicity.sfo.m != 0) | (r.toxicity.rfdo.m != 0);
+    let inhaled = (r.toxicity.sfi.m != 0) | (r.toxicity.rfdi.m != 0);
+    (swallowed & oral) | (breathed & inhaled)
 }
 
-// A chemical in soil: ingestion, and inhalation where VF or PEF is known.
-fn soil_chemical(s: Scenario, r: Contaminant) -> bool
+// Whether a contaminant has a pathway on either side. In soil: ingestion, inhalation (of a chemical where VF or PEF is
+// known), and of a radionuclide external radiation; in water: ingestion, and of a chemical skin and vapour.
+fn has_pathway(s: Scenario, medium: Medium, class: Class, r: Contaminant) -> bool
     requires { Needed s }
-    ensures { result ≡ either_known (known_values s r) 1 1 }
+    ensures { result ≡ either_known (known_values s r) (medium_number medium) (class_number class) }
 {
-    let air = either(r.transfer.vf.m != 0, s.contact.pef.m != 0);
-    chemical(r, s.contact.ir.m != 0, both(s.contact.ira.m != 0, air))
-}
-
-// A radionuclide in soil: ingestion, inhalation and external radiation.
-fn soil_radionuclide(s: Scenario, r: Contaminant) -> bool
-    requires { Needed s }
-    ensures { result ≡ either_known (known_values s r) 1 2 }
-{
-    let swallowed = both(r.toxicity.sfo.m != 0, s.contact.ir.m != 0);
-    let breathed = all_three(
-        r.toxicity.sfi.m != 0,
-        s.contact.ira.m != 0,
-        s.contact.pef.m != 0,
-    );
-    let outdoors = all_three(
-        r.toxicity.sfx.m != 0,
-        s.contact.et.m != 0,
-        s.contact.rf.m != 0,
-    );
-    either(swallowed, either(breathed, outdoors))
-}
-
-// A chemical in water: ingestion and skin, and vapour.
-fn water_chemical(s: Scenario, r: Contaminant) -> bool
-    requires { Needed s }
-    ensures { result ≡ either_known (known_values s r) 2 1 }
-{
-    let skin = all_three(
-        s.contact.sa.m != 0,
-        r.transfer.pc.m != 0,
-        s.contact.et.m != 0,
-    );
-    chemical(r, either(s.contact.ir.m != 0, skin), s.contact.ira.m != 0)
-}
-
-// A radionuclide in water: ingestion.
-fn water_radionuclide(s: Scenario, r: Contaminant) -> bool
-    requires { Needed s }
-    ensures { result ≡ either_known (known_values s r) 2 2 }
-{
-    both(r.toxicity.sfo.m != 0, s.contact.ir.m != 0)
-}
-
-// Whether a contaminant has a pathway on either side in a medium (1 soil, 2 water).
-fn has_pathway(s: Scenario, medium: u32, r: Contaminant) -> bool
-    requires { Checked s medium r }
-    ensures { result ≡ either_side s medium r }
-{
-    if r.class == 2 {
-        if medium == 1 {
-            return soil_radionuclide(s, r);
+    let x = r.toxicity;
+    let k = s.contact;
+    let swallowed = k.ir.m != 0;
+    let breathed = k.ira.m != 0;
+    match (class, medium) {
+        (Class::Chemical, Medium::Soil) => {
+            let air = (r.transfer.vf.m != 0) | (k.pef.m != 0);
+            chemical(r, swallowed, breathed & air)
         }
-        return water_radionuclide(s, r);
+        (Class::Radionuclide, Medium::Soil) => {
+            let oral = (x.sfo.m != 0) & swallowed;
+            let inhaled = (x.sfi.m != 0) & breathed & (k.pef.m != 0);
+            let outdoors = (x.sfx.m != 0) & (k.et.m != 0) & (k.rf.m != 0);
+            oral | inhaled | outdoors
+        }
+        (Class::Chemical, Medium::Water) => {
+            let skin = (k.sa.m != 0) & (r.transfer.pc.m != 0) & (k.et.m != 0);
+            chemical(r, swallowed | skin, breathed)
+        }
+        (Class::Radionuclide, Medium::Water) => (x.sfo.m != 0) & swallowed,
     }
-    if medium == 1 {
-        return soil_chemical(s, r);
-    }
-    water_chemical(s, r)
 }
 
 // What is sent back of a record that keeps its rules and its order: 8.
@@ -107,7 +54,9 @@ pub fn record_refusal(s: Scenario, medium: u32, r: Contaminant) -> Result<(), Re
     requires { Checked s medium r }
     ensures { result ≡ record_refusal s medium r }
 {
-    if !has_pathway(s, medium, r) {
+    let medium = Medium::of(medium);
+    let class = Class::of(r.class);
+    if !has_pathway(s, medium, class, r) {
         return Err(Refusal::Pathway);
     }
     Ok(())

@@ -3,7 +3,7 @@ use mathlib.Core.Path.{◌≡◌, sym, ap, subst, ◌∙◌}
 use mathlib.Core.List.{List}
 use Prim.Native.Nat.{ℕ, ◌+◌, ◌*◌, ◌-◌, ◌≤◌}
 use lib.ListN.{take, drop}
-use Rattle.std.specs.Prelude.{Result}
+use Rattle.std.specs.Prelude.{Result, false}
 use Rattle.outcome.specs.declared.Refused.{Refused}
 use Rattle.inputs.specs.declared.Scenario.{Scenario}
 use Rattle.inputs.specs.declared.Contaminant.{Contaminant}
@@ -15,15 +15,15 @@ use Rattle.block_rules.specs.Layouts.{result_block}
 use Rattle.terms.specs.Side.{Wide, WideSide}
 use Rattle.guideline.specs.declared.Column.{Column}
 use Rattle.guideline.specs.Column.{ColumnFor, PrintableColumn, column_decimals}
-use Rattle.inputs.specs.Rules.{scenario_refusal, most_contaminants}
+use Rattle.inputs.specs.Rules.{scenario_refusal, most_contaminants, lacks_factor}
 use Rattle.inputs.specs.Limits.{share_width}
 use Rattle.guideline_rules.specs.Guideline.{guidelines_sent, guideline_of, accepted}
 use Rattle.guideline.proofs.ColumnBounds.{column_printable}
 use Rattle.guideline.proofs.Steps.{TermsOf, ColumnsOf, wide, risk_column, hazard_column, accepted_out}
-use Rattle.shares.specs.declared.Plan.{Plan}
+use Rattle.shares.specs.declared.plan.Plan.{Plan}
 use Rattle.shares.specs.declared.Worked.{Worked}
 use Rattle.shares.specs.declared.Runs.{Runs}
-use Rattle.shares.specs.Plan.{PlanReady, PlanFits, Workable, WorkedFor, Addable, Added}
+use Rattle.shares.specs.Plan.{Workable, WorkedFor, Addable, Added}
 use Rattle.sums.specs.State.{RunsReady}
 use Rattle.shares.proofs.Plans.{inputs_of_lem}
 use Rattle.sums.proofs.Steps.{next_runs, addable}
@@ -50,12 +50,12 @@ block_is s medium site place r a b e g =
     ap (λ (z : Result Guidelines Refused). result_block place r.class r.id (guidelines_sent z).risk (guidelines_sent z).hazard) (sym g) ∙
     ap (λ (q : Contaminant). result_block place q.class q.id (guidelines_sent (guideline_of s medium q)).risk (guidelines_sent (guideline_of s medium q)).hazard) e
 
-module _ {p : Plan} {r : Contaminant} {w : Worked} (ready : PlanReady p) (passed : PlanFits p) (ok : RecordOk p.scenario p.medium r) (k : WorkedFor p r w) where
+module _ {p : Plan} {r : Contaminant} {w : Worked} (known : lacks_factor p.scenario ≡ false) (ok : RecordOk p.scenario p.medium r) (k : WorkedFor p r w) where
   can : Workable p r
-  can = record { ready = ready; passed = passed; contaminant = ok.fits }
+  can = record { known = known; contaminant = ok.fits }
 
   terms_of_lem : TermsOf p.scenario p.medium r p.up.factors p.up k.numbers w.above
-  terms_of_lem = record { inputs = inputs_of_lem can; factors = ready.factors; prepared = ready.up; numbers = k.stands; terms = k.upper_terms }
+  terms_of_lem = record { inputs = inputs_of_lem can; factors = p.ready.factors; prepared = p.ready.up; numbers = k.stands; terms = k.upper_terms }
 
   pub block_wide : (Wide p.up.factors.targets.tr × WideSide w.above.risk) × (Wide p.up.factors.targets.thi × WideSide w.above.hazard)
   block_wide = wide terms_of_lem
@@ -74,7 +74,7 @@ module _ {p : Plan} {r : Contaminant} {w : Worked} (ready : PlanReady p) (passed
     pub guideline_is : guideline_of p.scenario p.medium r ≡ accepted (column_decimals x) (column_decimals y)
     unfolding guideline_of scenario_refusal
     guideline_is =
-        rw (passed.fits, passed.known, ok.fits, ok.passed) (accepted_out columns_of)
+        rw (p.ready.fits, known, ok.fits, ok.passed) (accepted_out columns_of)
 
     -- and its shares can be added
     pub shares_fit : {n : ℕ} {z : Runs} → n ≤ most_contaminants + 1 → RunsReady (share_width + n) z → Addable z w x.sum y.sum

@@ -1,15 +1,15 @@
 -- What the functions that write the result blocks of a site ask and promise.
-use Rattle.std.specs.Prelude.{◌≡◌, List, ◌++◌, ℕ, ◌+◌, ◌*◌, ◌≤◌, ◌<◌, length}
+use Rattle.std.specs.Prelude.{◌≡◌, false, List, ◌++◌, ℕ, ◌+◌, ◌*◌, ◌≤◌, ◌<◌, length}
 use Rattle.block_rules.specs.Rules.{block_size}
 use Rattle.inputs.specs.declared.Scenario.{Scenario}
-use Rattle.inputs.specs.Rules.{most_contaminants}
+use Rattle.inputs.specs.Rules.{most_contaminants, lacks_factor}
 use Rattle.inputs.specs.Limits.{share_width}
 use Rattle.formulas.specs.Side.{Risk, Hazard}
-use Rattle.shares.specs.declared.Plan.{Plan}
+use Rattle.shares.specs.declared.plan.Plan.{Plan}
 use Rattle.shares.specs.declared.Runs.{Runs}
 use Rattle.sum_rules.specs.declared.Sums.{Sums}
 use Rattle.sum_rules.specs.Share.{start, run_all}
-use Rattle.shares.specs.Plan.{PlanReady, PlanFits, running_of}
+use Rattle.shares.specs.Plan.{running_of}
 use Rattle.sums.specs.State.{RunsReady}
 use Rattle.block_rules.specs.Layouts.{summary_block}
 use Rattle.site_rules.specs.Blocks.{record_at, records_from}
@@ -18,16 +18,14 @@ use Rattle.site_rules.specs.Passed.{RecordOk}
 
 -- a plan for the records of a site, all of them so
 pub record Writing (p : Plan) (site : List ℕ) (count : ℕ) : Type 0 where
-  pub ready : PlanReady p
-  pub passed : PlanFits p
+  pub known : lacks_factor p.scenario ≡ false
   pub long : block_size * count + block_size ≤ length site
   pub most : count ≤ most_contaminants
   pub records : (k : ℕ) → 1 ≤ k → k < 1 + count → RecordOk p.scenario p.medium (record_at site k)
 
 -- one block of them
 pub record WritingOne (p : Plan) (site : List ℕ) (place : ℕ) (x : Runs) : Type 0 where
-  pub ready : PlanReady p
-  pub passed : PlanFits p
+  pub known : lacks_factor p.scenario ≡ false
   pub long : block_size * place + block_size ≤ length site
   pub most : place ≤ most_contaminants
   pub ok : RecordOk p.scenario p.medium (record_at site place)

@@ -14,20 +14,20 @@ use shares::{Plan, Runs};
 use sum_rules::Sums;
 
 // Works out the contaminant of one block, writes its result block and adds its shares to the sums.
-fn put_block(site: &[u8], p: Plan, place: u32, x: Runs, out: &mut [u8]) -> Runs
-    requires { WritingOne p site.now place x × (block_size ≤ length out.old) }
-    ensures { NextRuns p (record_at site.now place) place x result × (out.new ≡ over (result_at p.scenario p.medium site.now place) out.old) }
+fn put_block(site: &[u8], p: Plan, place: u32, runs: &mut Runs, out: &mut [u8])
+    requires { WritingOne p site.now place runs.old × (block_size ≤ length out.old) }
+    ensures { NextRuns p (record_at site.now place) place runs.old runs.new × (out.new ≡ over (result_at p.scenario p.medium site.now place) out.old) }
 {
     let at = BLOCK_SIZE * (place as usize);
     let from = at + 4;
     let to = at + 508;
     let r = blocks::get_contaminant(&site[from..to], 4);
-    let w = shares::work(p, r);
+    let w = p.work(r);
     let g = guideline::columns_of(p.up.factors.targets.tr, p.up.factors.targets.thi, w.above);
     let risk = guideline::decimals(g.risk);
     let hazard = guideline::decimals(g.hazard);
     block_output::put_result(out, place, r.class, r.id, risk, hazard);
-    shares::add_shares(x, w, g.risk.sum, g.hazard.sum)
+    runs.add_shares(w, g.risk.sum, g.hazard.sum);
 }
 
 // The result blocks of all contaminants, each in its own part of the output, and their sums.
@@ -35,14 +35,14 @@ fn put_blocks(site: &[u8], p: Plan, count: u32, out: &mut [u8]) -> Runs
     requires { Writing p site.now count × (block_size * count + block_size ≤ length out.old) }
     ensures { AllAdded p site.now count result × (out.new ≡ over (take block_size out.old ++ results_to p.scenario p.medium site.now count) out.old) }
 {
-    let mut x = sums::no_runs();
+    let mut runs = sums::no_runs();
     for k in 0..count {
         let place = k + 1;
         let a = BLOCK_SIZE * (place as usize);
         let b = a + BLOCK_SIZE;
-        x = put_block(site, p, place, x, &mut out[a..b]);
+        put_block(site, p, place, &mut runs, &mut out[a..b]);
     }
-    x
+    runs
 }
 
 // The result blocks and, at place 0, the summary.
@@ -50,8 +50,8 @@ pub fn put_results(site: &[u8], p: Plan, count: u32, out: &mut [u8]) -> Sums
     requires { Writing p site.now count × (block_size * count + block_size ≤ length out.old) }
     ensures { (Ok result ≡ all_sums p.scenario p.medium (records_from site.now count 1)) × (out.new ≡ over (blocks_of p.scenario p.medium site.now count result) out.old) }
 {
-    let x = put_blocks(site, p, count, out);
-    let a = sums::reported(p, x);
+    let runs = put_blocks(site, p, count, out);
+    let a = sums::reported(p, runs);
     let risk = a.risk;
     let hazard = a.hazard;
     block_output::put_summary(&mut out[0..BLOCK_SIZE], risk, hazard);

@@ -8,7 +8,7 @@ use Rattle.inputs.specs.Inputs.{scenario_decimals}
 use Rattle.inputs.specs.Valid.{all_valid}
 use Rattle.inputs.specs.Rules.{one_or_two, scenario_fits, OneOrTwo}
 use Rattle.inputs.proofs.Tests.{and_split, one_or_two_lem}
-use Rattle.shares.specs.declared.Plan.{Plan}
+use Rattle.shares.specs.declared.plan.Plan.{Plan}
 use Rattle.guideline_rules.proofs.Accepted.{Accepted, accepted_inputs}
 use Rattle.shares.specs.Plan.{Workable}
 
@@ -18,4 +18,4 @@ fits_parts s medium h = let a = and_split (one_or_two medium) _ h in (a.1, one_o
 
 -- ---- the inputs of a record
 pub inputs_of_lem : {p : Plan} {r : Contaminant} → Workable p r → Accepted p.scenario p.medium r
-inputs_of_lem {p} {r} h = accepted_inputs p.scenario p.medium r h.passed.fits h.passed.known h.contaminant
+inputs_of_lem {p} {r} h = accepted_inputs p.scenario p.medium r p.ready.fits h.known h.contaminant

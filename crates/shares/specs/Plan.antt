@@ -10,38 +10,22 @@ use Rattle.outcome.specs.declared.Refused.{Refused}
 use Rattle.outcome.specs.Outcome.{located}
 use Rattle.inputs.specs.declared.Scenario.{Scenario}
 use Rattle.inputs.specs.declared.Contaminant.{Contaminant}
-use Rattle.inputs.specs.Inputs.{scenario_decimals}
-use Rattle.inputs.specs.Valid.{all_valid}
-use Rattle.inputs.specs.Rules.{scenario_fits, lacks_factor, contaminant_fits, OneOrTwo}
+use Rattle.inputs.specs.Rules.{lacks_factor, contaminant_fits}
 use Rattle.factors.specs.declared.numbers.ContaminantNumbers.{ContaminantNumbers}
 use Rattle.terms.specs.declared.pathways.PathwayTerms.{PathwayTerms}
 use Rattle.terms.specs.declared.pathways.Terms.{Terms}
 use Rattle.inputs.specs.Limits.{input_width, sum_width}
-use Rattle.factors.specs.Stands.{Stands, FactorsFor, NumbersFor, Input}
-use Rattle.factors.specs.Prepared.{PreparedFor}
+use Rattle.factors.specs.Stands.{Stands, NumbersFor, Input}
 use Rattle.terms.specs.Side.{TermsFor, TotalSize}
-use Rattle.shares.specs.declared.Plan.{Plan}
+use Rattle.shares.specs.declared.plan.Plan.{Plan}
 use Rattle.shares.specs.declared.Worked.{Worked}
 use Rattle.shares.specs.declared.SideRun.{SideRun}
 use Rattle.shares.specs.declared.Runs.{Runs}
 use Rattle.sum_rules.specs.Share.{Running, used_of}
 use Rattle.sum_rules.specs.ListCall.{first_refusal}
 
--- ---- the plan: a scenario and a medium with the numbers worked out of them
-pub record PlanReady (p : Plan) : Type 0 where
-  pub valid : all_valid (scenario_decimals p.scenario) ≡ true
-  pub media : OneOrTwo p.medium
-  pub factors : FactorsFor p.scenario p.up.factors
-  pub up : PreparedFor Up p.up.factors p.up
-  pub down : PreparedFor Down p.up.factors p.down
-
--- its scenario and its medium passed refusals 4 and 6
-pub record PlanFits (p : Plan) : Type 0 where
-  pub fits : scenario_fits p.scenario p.medium ≡ true
-  pub known : lacks_factor p.scenario ≡ false
-
+-- ---- the plan of a scenario and a medium
 pub record Planned (s : Scenario) (medium : ℕ) (p : Plan) : Type 0 where
-  pub ready : PlanReady p
   pub scenario : p.scenario ≡ s
   pub media : p.medium ≡ medium
 
@@ -52,8 +36,7 @@ Begun s medium n x =
 
 -- ---- the terms of a record that keeps its rules
 pub record Workable (p : Plan) (r : Contaminant) : Type 0 where
-  pub ready : PlanReady p
-  pub passed : PlanFits p
+  pub known : lacks_factor p.scenario ≡ false
   pub contaminant : contaminant_fits r ≡ true
 
 abbrev pub total_from : PathwayTerms → Number

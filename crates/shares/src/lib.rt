@@ -1,34 +1,23 @@
 // What one record adds to the running sums of both sides, from what a scenario in a medium gives once to every record.
 #![tactic(auto)]
 
+mod plan;
+
 ghost use Rattle.std.specs.Prelude.{◌≡◌, true};
-ghost use Rattle.inputs.specs.Inputs.{scenario_decimals};
-ghost use Rattle.inputs.specs.Valid.{all_valid};
-ghost use Rattle.inputs.specs.Rules.{OneOrTwo};
+ghost use Rattle.inputs.specs.Rules.{scenario_fits};
 ghost use Rattle.terms.specs.Side.{TotalSize};
 ghost use Rattle.factors.specs.Stands.{Input};
 ghost use Rattle.sum_rules.specs.ListCall.{first_refusal};
 ghost use Rattle.shares.specs.Plan.{Planned, Begun, Workable, WorkedFor, RunSize, Shared, Addable, Added};
 
-use factors::prepared::Prepared;
-use inputs::{Contaminant, Scenario, scenario_refusal};
-use outcome::{Refusal, Refused, in_block};
-use presence::either;
+use inputs::{Class, Contaminant, Medium, Scenario, scenario_refusal};
+use outcome::{Refusal, Refused, located};
+pub use plan::Plan;
 use rounding::{Direction, Number};
 use terms::pathways::{Terms, total};
 
 // The most contaminants of a list, as a length.
 const MOST: usize = inputs::MOST_CONTAMINANTS as usize;
-
-// What does not change from record to record: the scenario, the medium, and what is worked out of them in both
-// directions.
-#[derive(Clone, Copy)]
-pub struct Plan {
-    pub scenario: Scenario,
-    pub medium: u32,
-    pub up: Prepared,
-    pub down: Prepared,
-}
 
 // A record's upper terms, the sums of its lower terms on each side, and its concentration.
 #[derive(Clone, Copy)]
@@ -58,10 +47,8 @@ pub struct Runs {
 fn first_refusal(s: Scenario, medium: u32, n: usize) -> Result<(), Refusal>
     ensures { result ≡ first_refusal s medium n }
 {
-    if n == 0 {
-        return Err(Refusal::Length);
-    }
-    if MOST < n {
+    let fits = (1 <= n) & (n <= MOST);
+    if !fits {
         return Err(Refusal::Length);
     }
     scenario_refusal(s, medium)
@@ -69,7 +56,7 @@ fn first_refusal(s: Scenario, medium: u32, n: usize) -> Result<(), Refusal>
 
 // The plan of a scenario and a medium that keep their rules.
 fn planned(s: Scenario, medium: u32) -> Plan
-    requires { (all_valid (scenario_decimals s) ≡ true) × OneOrTwo medium }
+    requires { scenario_fits s medium ≡ true }
     ensures { Planned s medium result }
 {
     let f = factors::numbers::scenario_numbers(s);
@@ -85,48 +72,52 @@ fn planned(s: Scenario, medium: u32) -> Plan
 pub fn begin(s: Scenario, medium: u32, n: usize) -> Result<Plan, Refused>
     ensures { Begun s medium n result }
 {
-    in_block(first_refusal(s, medium, n), 0)?;
+    located(first_refusal(s, medium, n), 0)?;
     Ok(planned(s, medium))
 }
 
-// The terms of a record.
-pub fn work(p: Plan, r: Contaminant) -> Worked
-    requires { Workable p r }
-    ensures { WorkedFor p r result }
-{
-    let x = factors::numbers::contaminant_numbers(r);
-    let above = terms::pathways::terms_of(p.up, x, p.medium, r.class, Direction::Up);
-    let below = terms::pathways::terms_of(p.down, x, p.medium, r.class, Direction::Down);
-    let c = factors::numbers::number_of(r.c);
-    Worked {
-        above,
-        risk: total(below.risk, Direction::Down),
-        hazard: total(below.hazard, Direction::Down),
-        c,
+impl Plan {
+    // The terms of a record.
+    pub fn work(self, r: Contaminant) -> Worked
+        requires { Workable self r }
+        ensures { WorkedFor self r result }
+    {
+        let medium = Medium::of(self.medium);
+        let class = Class::of(r.class);
+        let x = factors::numbers::contaminant_numbers(r);
+        let above = terms::pathways::terms_of(self.up, x, medium, class, Direction::Up);
+        let below = terms::pathways::terms_of(self.down, x, medium, class, Direction::Down);
+        let c = factors::numbers::number_of(r.c);
+        Worked {
+            above,
+            risk: total(below.risk, Direction::Down),
+            hazard: total(below.hazard, Direction::Down),
+            c,
+        }
     }
 }
 
-// One step of the running sums of a side: the concentration times the lower and the upper term sum, added down and up.
-fn add_share(x: SideRun, c: Number, lower: Number, upper: Number) -> SideRun
-    requires { (Input c × RunSize x) × (TotalSize lower × TotalSize upper) }
-    ensures { Shared x c lower upper result }
-{
-    let small = c.mul(lower, Direction::Down);
-    let great = c.mul(upper, Direction::Up);
-    SideRun {
-        lower: x.lower.add(small, Direction::Down),
-        upper: x.upper.add(great, Direction::Up),
-        any: either(x.any, upper.m != 0),
+impl SideRun {
+    // One step of the running sums of a side: the concentration times the lower and the upper term sum, added down and up.
+    fn add_share(&mut self, c: Number, lower: Number, upper: Number)
+        requires { (Input c × RunSize self.old) × (TotalSize lower × TotalSize upper) }
+        ensures { Shared self.old c lower upper self.new }
+    {
+        let small = c.mul(lower, Direction::Down);
+        let great = c.mul(upper, Direction::Up);
+        self.lower = self.lower.add(small, Direction::Down);
+        self.upper = self.upper.add(great, Direction::Up);
+        self.any |= upper.m != 0;
     }
 }
 
-// The running sums after a record, from its terms and the sums of its upper terms.
-pub fn add_shares(x: Runs, w: Worked, risk: Number, hazard: Number) -> Runs
-    requires { Addable x w risk hazard }
-    ensures { Added x w risk hazard result }
-{
-    Runs {
-        risk: add_share(x.risk, w.c, w.risk, risk),
-        hazard: add_share(x.hazard, w.c, w.hazard, hazard),
+impl Runs {
+    // Adds a record, by its terms and the sums of its upper terms.
+    pub fn add_shares(&mut self, w: Worked, risk: Number, hazard: Number)
+        requires { Addable self.old w risk hazard }
+        ensures { Added self.old w risk hazard self.new }
+    {
+        self.risk.add_share(w.c, w.risk, risk);
+        self.hazard.add_share(w.c, w.hazard, hazard);
     }
 }

@@ -11,11 +11,11 @@ use Rattle.words.proofs.Written.{over_length}
 use Rattle.block_rules.specs.declared.Header.{Header}
 use Rattle.block_rules.specs.Layouts.{summary_block}
 use Rattle.block_rules.proofs.ResultsBack.{summary_length}
-use Rattle.shares.specs.declared.Plan.{Plan}
+use Rattle.shares.specs.declared.plan.Plan.{Plan}
 use Rattle.sum_rules.specs.declared.Sums.{Sums}
 use Rattle.sum_rules.specs.ListCall.{first_refusal}
 use Rattle.shares.specs.Plan.{Planned}
-use Rattle.sums.proofs.Started.{plan_fits}
+use Rattle.sums.proofs.Started.{plan_known}
 use Rattle.site_rules.specs.Blocks.{records_from, all_sums}
 use Rattle.site_rules.specs.Site.{site_answer}
 use Rattle.site_rules.specs.Results.{results_to, site_left}
@@ -35,8 +35,7 @@ module _ {site : List ℕ} {h : Header} {p : Plan} (o : Opened site h) (z : chec
     (b : Planned h.scenario h.medium p) where
   pub writing : Writing p site h.count
   writing = record {
-    ready = b.ready;
-    passed = plan_fits h.count b (first_found o);
+    known = plan_known h.count b (first_found o);
     long = (checking o).long;
     most = count_most o;
     records = λ k l u. rw (b.scenario, b.media) (checked_records o z k l u);

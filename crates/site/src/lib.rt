@@ -10,7 +10,7 @@ ghost use Rattle.site_rules.specs.Passed.{Opened};
 
 use block_rules::{BLOCK_SIZE, Header};
 use inputs::Scenario;
-use outcome::{Refusal, Refused, in_block};
+use outcome::{Refusal, Refused, located};
 use sum_rules::Sums;
 
 // The bytes of a site with one contaminant, and with 120.
@@ -22,8 +22,8 @@ const MOST: usize = 121 * BLOCK_SIZE;
 fn length_ok(n: usize) -> bool
     ensures { result ≡ length_ok n }
 {
-    let enough = inputs::both(LEAST <= n, n <= MOST);
-    inputs::both(enough, n % BLOCK_SIZE == 0)
+    let enough = (LEAST <= n) & (n <= MOST);
+    enough & (n % BLOCK_SIZE == 0)
 }
 
 // The first refusal of the contaminant blocks, in their order. The tests of a record look at its fields only, so no term
@@ -36,8 +36,8 @@ fn check_blocks(site: &[u8], s: Scenario, medium: u32, count: u32) -> Result<(),
     for k in 0..count {
         let place = k + 1;
         let at = BLOCK_SIZE * (place as usize);
-        let r = in_block(blocks::read_contaminant(site, at, place, previous), place)?;
-        in_block(presence::record_refusal(s, medium, r), place)?;
+        let r = located(blocks::read_contaminant(site, at, place, previous), place)?;
+        located(presence::record_refusal(s, medium, r), place)?;
         previous = r.id;
     }
     Ok(())
@@ -67,6 +67,6 @@ pub fn evaluate(site: &[u8], out: &mut [u8]) -> Result<Sums, Refused>
         return Err(Refusal::Length.in_block(0));
     }
     let blocks = (n / BLOCK_SIZE) as u32;
-    let h = in_block(blocks::read_header(site, blocks), 0)?;
+    let h = located(blocks::read_header(site, blocks), 0)?;
     evaluate_blocks(site, h, out)
 }

@@ -1,6 +1,6 @@
 -- The first state of the list call gives the answer of the whole list. Assumes nothing.
 use Rattle.std.proofs.Common.{◌≡◌, ℕ, ◌≤◌, List, length, refl, sym, ap, ◌∙◌, arith}
-use Rattle.std.specs.Prelude.{leb, Ok, Err}
+use Rattle.std.specs.Prelude.{false, leb, Ok, Err}
 use lib.Dec.{lit≤}
 use borrow.Author.Tests.{leb-true}
 use Rattle.outcome.specs.declared.Refused.{Refused}
@@ -8,11 +8,12 @@ use Rattle.outcome.specs.Outcome.{located}
 use Rattle.outcome.proofs.Tests.{tests_refused}
 use Rattle.inputs.specs.declared.Scenario.{Scenario}
 use Rattle.inputs.specs.declared.Contaminant.{Contaminant}
+use Rattle.inputs.specs.Rules.{lacks_factor}
 use Rattle.inputs.proofs.Tests.{and_split}
-use Rattle.shares.specs.declared.Plan.{Plan}
+use Rattle.shares.specs.declared.plan.Plan.{Plan}
 use Rattle.sum_rules.specs.Share.{start}
 use Rattle.sum_rules.specs.ListCall.{first_refusal, walk, sums_of}
-use Rattle.shares.specs.Plan.{Planned, PlanFits}
+use Rattle.shares.specs.Plan.{Planned}
 use Rattle.sums.specs.State.{answer_from, Room, Good, first_of}
 use Rattle.sum_rules.proofs.Runs.{FirstPassed, first_passed}
 use Rattle.sum_rules.proofs.InRange.{fair_start}
@@ -31,11 +32,11 @@ module _ {s : Scenario} {medium : ℕ} (n : ℕ) {p : Plan} (h : Planned s mediu
   most_records : n ≤ 120
   most_records = leb-true n 120 (and_split (leb 1 n) (leb n 120) tests.length_fits).1
 
-  pub plan_fits : PlanFits p
-  plan_fits = record { fits = rw (h.scenario, h.media) tests.scenario.fits; known = rw h.scenario tests.scenario.factors }
+  pub plan_known : lacks_factor p.scenario ≡ false
+  plan_known = rw h.scenario tests.scenario.factors
 
   pub started_good : Good p first_of
-  started_good = record { ready = h.ready; passed = plan_fits; place = lit≤ tt; runs = none_ready }
+  started_good = record { known = plan_known; place = lit≤ tt; runs = none_ready }
 
   pub started_room : (rs : List Contaminant) → length rs ≡ n → Room first_of rs
   started_room rs e = record { room = omega (arith, most_records, e) }

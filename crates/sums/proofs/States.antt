@@ -13,7 +13,7 @@ use Rattle.outcome.proofs.Tests.{tests_refused}
 use Rattle.inputs.specs.declared.Contaminant.{Contaminant}
 use Rattle.inputs.specs.Rules.{contaminant_fits}
 use Rattle.factors.proofs.StandsLaws.{zero_stands, stands_most}
-use Rattle.shares.specs.declared.Plan.{Plan}
+use Rattle.shares.specs.declared.plan.Plan.{Plan}
 use Rattle.sums.specs.declared.State.{State}
 use Rattle.inputs.specs.Limits.{share_width}
 use Rattle.guideline_rules.specs.Pathway.{record_refusal}

@@ -19,7 +19,7 @@ use Rattle.factors.specs.Stands.{Input}
 use Rattle.factors.proofs.StandsLaws.{stands_own}
 use Rattle.terms.proofs.SameValues.{values_same}
 use Rattle.guideline.proofs.Steps.{sides}
-use Rattle.shares.specs.declared.Plan.{Plan}
+use Rattle.shares.specs.declared.plan.Plan.{Plan}
 use Rattle.shares.specs.declared.Worked.{Worked}
 use Rattle.shares.specs.declared.SideRun.{SideRun}
 use Rattle.shares.specs.declared.Runs.{Runs}
@@ -45,10 +45,10 @@ module _ {p : Plan} {r : Contaminant} {w : Worked} (h : Workable p r) (k : Worke
   concentration = stands_own (k.c Up)
 
   up_same : number_values Up p.up.factors k.numbers ≡ values_for Up p.scenario r
-  up_same = values_same Up p.scenario r h.ready.factors h.ready.up k.stands
+  up_same = values_same Up p.scenario r p.ready.factors p.ready.up k.stands
 
   down_same : number_values Down p.down.factors k.numbers ≡ values_for Down p.scenario r
-  down_same = values_same Down p.scenario r h.ready.factors h.ready.down k.stands
+  down_same = values_same Down p.scenario r p.ready.factors p.ready.down k.stands
 
   module _ {a b : Number} (u : UpperSum w.above.risk a) (v : UpperSum w.above.hazard b) where
     risk_side : SideTerms p.scenario p.medium r Risk w.above.risk k.below.risk a w.risk w.c
@@ -94,7 +94,7 @@ module _ {p : Plan} {r : Contaminant} {w : Worked} (h : Workable p r) (k : Worke
 
 -- ---- the list call
 pub workable : {p : Plan} {t : State} {r : Contaminant} → Advancing p t r → Workable p r
-workable h = record { ready = h.good.ready; passed = h.good.passed; contaminant = h.fits }
+workable h = record { known = h.good.known; contaminant = h.fits }
 
 module _ {p : Plan} {t : State} {r : Contaminant} (h : Advancing p t r) (z : record_refusal p.scenario p.medium r ≡ Ok tt) {y : Runs} (n : NextRuns p r t.place t.runs y) where
   abbrev pub after : State
@@ -106,7 +106,7 @@ module _ {p : Plan} {t : State} {r : Contaminant} (h : Advancing p t r) (z : rec
 
   pub moved_steps : Moved p t r after
   moved_steps = record {
-    good = record { ready = h.good.ready; passed = h.good.passed; place = omega (arith, h.place); runs = n.ready };
+    good = record { known = h.good.known; place = omega (arith, h.place); runs = n.ready };
     same = λ rs l. same_answer rs;
     room = λ rs l. record { room = omega (arith, l.room) };
   }

@@ -8,12 +8,12 @@ use Rattle.outcome.specs.declared.Refusal.TheVariants.{Field, Order}
 use Rattle.outcome.specs.Outcome.{refused, passing}
 use Rattle.inputs.specs.declared.Scenario.{Scenario}
 use Rattle.inputs.specs.declared.Contaminant.{Contaminant}
-use Rattle.inputs.specs.Rules.{contaminant_fits, most_contaminants}
+use Rattle.inputs.specs.Rules.{contaminant_fits, most_contaminants, lacks_factor}
 use Rattle.inputs.specs.Limits.{share_width, sum_width}
 use Rattle.formulas.specs.Side.{Risk, Hazard}
 use Rattle.guideline_rules.specs.Pathway.{record_refusal}
 use Rattle.factors.specs.Stands.{Stands}
-use Rattle.shares.specs.declared.Plan.{Plan}
+use Rattle.shares.specs.declared.plan.Plan.{Plan}
 use Rattle.shares.specs.declared.SideRun.{SideRun}
 use Rattle.shares.specs.declared.Runs.{Runs}
 use Rattle.sums.specs.declared.State.{State}
@@ -22,7 +22,7 @@ use Rattle.sum_rules.specs.declared.Sums.{Sums}
 use Rattle.sum_rules.specs.Verdict.{verdict_of}
 use Rattle.sum_rules.specs.Share.{Running, next}
 use Rattle.sum_rules.specs.ListCall.{working_target, accepted}
-use Rattle.shares.specs.Plan.{PlanReady, PlanFits, no_runs, running_of}
+use Rattle.shares.specs.Plan.{no_runs, running_of}
 
 -- the records one by one without condition 9, which cannot hold (proofs/InRange.antt)
 unfoldable pub steps : Scenario → ℕ → List Contaminant → ℕ → ℕ → Running → Running → Result Sums Refused
@@ -58,8 +58,7 @@ pub record NextRuns (p : Plan) (r : Contaminant) (place : ℕ) (x y : Runs) : Ty
 
 -- what every state keeps
 pub record Good (p : Plan) (t : State) : Type 0 where
-  pub ready : PlanReady p
-  pub passed : PlanFits p
+  pub known : lacks_factor p.scenario ≡ false
   pub place : t.place ≤ most_contaminants + 1
   pub runs : RunsReady (share_width + t.place) t.runs
 

@@ -5,11 +5,11 @@ ghost use Rattle.std.specs.Prelude.{◌≡◌, [], Ok};
 ghost use Rattle.inputs.specs.Limits.{sum_width};
 ghost use Rattle.sum_rules.specs.Verdict.{verdict_number, verdict_of};
 ghost use Rattle.decimal.specs.Decimal.{decimal_of};
-ghost use Rattle.shares.specs.Plan.{PlanReady, no_runs};
+ghost use Rattle.shares.specs.Plan.{no_runs};
 ghost use Rattle.sums.specs.State.{Good, Stepped, answer_from, first_of, Advancing, Comparable, SideReady, RunsReady, side_sums_of, reported_of};
 
 use inputs::{Contaminant, MOST_CONTAMINANTS, contaminant_fits};
-use outcome::{Refusal, Refused, in_block};
+use outcome::{Refusal, Refused, located};
 use presence::record_refusal;
 use rounding::{Direction, Number};
 use shares::{Plan, Runs, SideRun};
@@ -85,14 +85,16 @@ fn advance(p: Plan, t: State, r: Contaminant) -> Result<State, Refused>
     requires { Advancing p t r }
     ensures { Stepped p t r result }
 {
-    in_block(record_refusal(p.scenario, p.medium, r), t.place)?;
-    let w = shares::work(p, r);
+    located(record_refusal(p.scenario, p.medium, r), t.place)?;
+    let w = p.work(r);
     let risk = total(w.above.risk, Direction::Up);
     let hazard = total(w.above.hazard, Direction::Up);
+    let mut runs = t.runs;
+    runs.add_shares(w, risk, hazard);
     Ok(State {
         place: t.place + 1,
         previous: r.id,
-        runs: shares::add_shares(t.runs, w, risk, hazard),
+        runs,
     })
 }
 
@@ -127,7 +129,7 @@ fn side_sums(x: SideRun, target: Number) -> SideSums
 
 // The sums of both sides, which an accepted call answers.
 pub fn reported(p: Plan, x: Runs) -> Sums
-    requires { PlanReady p × RunsReady sum_width x }
+    requires { RunsReady sum_width x }
     ensures { result ≡ reported_of p.scenario x }
 {
     let targets = p.up.factors.targets;

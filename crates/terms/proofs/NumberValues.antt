@@ -19,7 +19,6 @@ use Rattle.factors.specs.declared.numbers.Factors.{Factors}
 use Rattle.factors.specs.declared.numbers.ContaminantNumbers.{ContaminantNumbers}
 use Rattle.factors.specs.declared.prepared.Prepared.{Prepared}
 use Rattle.terms.specs.declared.pathways.PathwayTerms.{PathwayTerms}
-use Rattle.terms.specs.declared.pathways.Terms.{Terms}
 use Rattle.inputs.specs.Limits.{input_width, part_roundings, part_width, worked_width, formula_roundings, formula_width, two_width}
 use Rattle.formulas.specs.Side.{Side, Hazard}
 use Rattle.formulas.specs.Formula.{◌÷◌, none, B, One, VF, PEF, no_pathways, table, pathways_of, derived, derived_places}
@@ -27,7 +26,7 @@ use Rattle.formulas.specs.Term.{look, constants, present_of, evaluated, term_of,
 use Rattle.factors.specs.Stands.{Stands, StandAll, factor_numbers, contaminant_numbers}
 use Rattle.factors.specs.Stands.StandAll.{end, next}
 use Rattle.factors.specs.Prepared.{Middle, unit}
-use Rattle.terms.specs.Side.{number_inputs, number_values, Ready, SideFor, TermsFor, no_side}
+use Rattle.terms.specs.Side.{number_inputs, number_values, Ready, SideFor, no_side}
 use Rattle.decimal.proofs.Value.{Value, skip_first, skip_next, value_most}
 use Rattle.factors.proofs.StandsLaws.{no_number, zero_stands, stands_at, stands_join, stands_operand, stands_middle, stands_value, stands_most, stands_is, stands_div, stands_add, stands_mul3}
 use Rattle.decimal.proofs.Value.Value.{absent}
@@ -152,11 +151,6 @@ stands_turned dir back e {u} {v} {w} {p} {q} {n} {r} {a} {b} {c} s t z h k =
 pub no_term : (vs : List Decimal) (dir : Direction) → term_of vs dir none ≡ zero_of
 unfolding term_of present_of
 no_term vs dir = refl
-
-pub terms_at : {dir : Direction} {f : Factors} {t : ContaminantNumbers} {medium class m k : ℕ} {r : Terms} → medium ≡ m → class ≡ k →
-    TermsFor dir f t m k r → TermsFor dir f t medium class r
-terms_at {dir} {f} {t} {medium} {class} {m} {k} {r} e g h =
-    subst (λ (n : ℕ). TermsFor dir f t n class r) (sym e) (subst (λ (n : ℕ). TermsFor dir f t m n r) (sym g) h)
 
 none_stands : (vs : List Decimal) (dir : Direction) → Stands formula_width no_number (term_of vs dir none)
 none_stands vs dir = stands_is (sym (no_term vs dir)) (stands_most (lit≤ tt) zero_stands)

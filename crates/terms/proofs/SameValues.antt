@@ -13,7 +13,9 @@ use Rattle.formulas.specs.Formula.{Formula, derived}
 use Rattle.formulas.specs.Term.{constants, total_of, inputs_of, values_of}
 use Rattle.factors.specs.Stands.{StandAll, contaminant_numbers, FactorsFor, NumbersFor}
 use Rattle.factors.specs.Prepared.{PreparedFor}
-use Rattle.terms.specs.Side.{number_values, Ready}
+use Rattle.terms.specs.Side.{number_values, Ready, TermsFor}
+use Rattle.terms.specs.declared.pathways.Terms.{Terms}
+use Prim.Native.Nat.{ℕ}
 use Rattle.factors.proofs.StandsLaws.{all_own, all_same}
 
 pub ready : {dir : Direction} {f : Factors} {p : Prepared} {t : ContaminantNumbers} {ds : List Decimal} → PreparedFor dir f p → StandAll (contaminant_numbers t) ds → Ready dir p t
@@ -29,3 +31,9 @@ values_same dir s r {f} {p} {t} h g k =
   where
     values : List Decimal → List Decimal
     values l = map (total_of (map (λ (fs : List Formula). zero_of) derived ++ l) dir) derived ++ l
+
+-- the terms of equal kinds
+pub terms_at : {dir : Direction} {f : Factors} {t : ContaminantNumbers} {medium class m k : ℕ} {r : Terms} → m ≡ medium → k ≡ class →
+    TermsFor dir f t m k r → TermsFor dir f t medium class r
+terms_at {dir} {f} {t} {medium} {class} {m} {k} {r} e g h =
+    subst (λ (n : ℕ). TermsFor dir f t n class r) e (subst (λ (n : ℕ). TermsFor dir f t m n r) g h)

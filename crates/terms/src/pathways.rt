@@ -6,10 +6,12 @@ ghost use Rattle.rounding.specs.Operations.{sum_of};
 ghost use Rattle.formulas.specs.Side.{Risk, Hazard};
 ghost use Rattle.formulas.specs.Formula.{pathways_of};
 ghost use Rattle.terms.specs.Side.{Ready, Air, no_side, SideFor, TermsFor, WideSide, TotalSize};
-ghost use Rattle.inputs.specs.Rules.{OneOrTwo};
+ghost use Rattle.terms.specs.OneProof.{one_ready};
+ghost use Rattle.inputs.specs.Kinds.{medium_number, class_number};
 
 use factors::numbers::ContaminantNumbers;
 use factors::prepared::{DAYS, HALF, MILLIONTH, ONE, Prepared, product3};
+use inputs::{Class, Medium};
 use rounding::{BIAS, Direction, NINE_DIGITS, Number};
 
 // The constants that only a term names: 10^-3 and 0.000114.
@@ -38,123 +40,131 @@ pub struct Terms {
     pub hazard: PathwayTerms,
 }
 
-// B = 1/VF + 1/PEF.
-fn air(p: Prepared, t: ContaminantNumbers, dir: Direction) -> Number
-    requires { Ready dir p t }
-    ensures { Air dir p t result }
-{
-    ONE.div(t.transfer.vf, dir).add(p.inverse_pef, dir)
-}
-
-// Soil, chemical, risk: ingestion and inhalation.
-fn soil_chemical_risk(p: Prepared, t: ContaminantNumbers, b: Number, dir: Direction) -> PathwayTerms
-    requires { Ready dir p t × Air dir p t b }
-    ensures { SideFor dir p.factors t (pathways_of 1 1 Risk) result }
-{
-    let e = p.factors.exposure;
-    let k = p.factors.contact;
-    let x = t.toxicity;
-    let swallowed = product3(product3(x.sfo, k.ir, MILLIONTH, dir), e.ef, e.ed, dir);
-    let inhaled = product3(product3(x.sfi, k.ira, b, dir), e.ef, e.ed, dir);
-    PathwayTerms {
-        first: swallowed.div(p.lifetime, dir),
-        second: inhaled.div(p.lifetime, dir),
-        third: Number::ZERO,
-    }
-}
-
-// Soil, chemical, hazard: ingestion and inhalation.
-fn soil_chemical_hazard(
+// What the terms are worked out from in a direction: what a scenario gives once, and the numbers of a contaminant.
+#[derive(Clone, Copy)]
+struct Given {
     p: Prepared,
     t: ContaminantNumbers,
-    b: Number,
     dir: Direction,
-) -> PathwayTerms
-    requires { Ready dir p t × Air dir p t b }
-    ensures { SideFor dir p.factors t (pathways_of 1 1 Hazard) result }
-{
-    let e = p.factors.exposure;
-    let k = p.factors.contact;
-    let x = t.toxicity;
-    let back = dir.opposite();
-    let oral = product3(x.rfdo, e.bw, DAYS, back);
-    let inhaled = product3(x.rfdi, e.bw, DAYS, back);
-    PathwayTerms {
-        first: p.soil_intake.div(oral, dir),
-        second: product3(k.ira, b, e.ef, dir).div(inhaled, dir),
-        third: Number::ZERO,
-    }
+    ghost ready: { Ready dir p t } by { one_ready dir p t },
 }
 
-// Soil, radionuclide, risk: ingestion, inhalation and external radiation.
-fn soil_radionuclide_risk(p: Prepared, t: ContaminantNumbers, dir: Direction) -> PathwayTerms
-    requires { Ready dir p t }
-    ensures { SideFor dir p.factors t (pathways_of 1 2 Risk) result }
-{
-    let e = p.factors.exposure;
-    let k = p.factors.contact;
-    let x = t.toxicity;
-    let inhaled = product3(x.sfi.mul(k.ira, dir), e.ef, e.ed, dir);
-    let outdoors = product3(x.sfx, k.et, k.rf, dir).mul(YEARS_PER_HOUR, dir);
-    PathwayTerms {
-        first: product3(product3(x.sfo, k.ir, MILLIONTH, dir), e.ef, e.ed, dir),
-        second: inhaled.div(k.pef, dir),
-        third: product3(outdoors, e.ef, e.ed, dir),
+impl Given {
+    // B = 1/VF + 1/PEF.
+    fn air(self) -> Number
+        ensures { Air self.dir self.p self.t result }
+    {
+        ONE.div(self.t.transfer.vf, self.dir)
+            .add(self.p.inverse_pef, self.dir)
     }
-}
 
-// Water, chemical, risk: ingestion, vapour and skin.
-fn water_chemical_risk(p: Prepared, t: ContaminantNumbers, dir: Direction) -> PathwayTerms
-    requires { Ready dir p t }
-    ensures { SideFor dir p.factors t (pathways_of 2 1 Risk) result }
-{
-    let e = p.factors.exposure;
-    let k = p.factors.contact;
-    let x = t.toxicity;
-    let pc = t.transfer.pc;
-    let swallowed = product3(x.sfo.mul(k.ir, dir), e.ef, e.ed, dir);
-    let inhaled = product3(product3(x.sfi, k.ira, HALF, dir), e.ef, e.ed, dir);
-    let wet = product3(product3(x.sfo, k.sa, pc, dir), k.et, THOUSANDTH, dir);
-    let absorbed = product3(wet, e.ef, e.ed, dir);
-    PathwayTerms {
-        first: swallowed.div(p.lifetime, dir),
-        second: inhaled.div(p.lifetime, dir),
-        third: absorbed.div(p.lifetime, dir),
+    // Soil, chemical, risk: ingestion and inhalation.
+    fn soil_chemical_risk(self, b: Number) -> PathwayTerms
+        requires { Air self.dir self.p self.t b }
+        ensures { SideFor self.dir self.p.factors self.t (pathways_of 1 1 Risk) result }
+    {
+        let Given { p, t, dir } = self;
+        let e = p.factors.exposure;
+        let k = p.factors.contact;
+        let x = t.toxicity;
+        let swallowed = product3(product3(x.sfo, k.ir, MILLIONTH, dir), e.ef, e.ed, dir);
+        let inhaled = product3(product3(x.sfi, k.ira, b, dir), e.ef, e.ed, dir);
+        PathwayTerms {
+            first: swallowed.div(p.lifetime, dir),
+            second: inhaled.div(p.lifetime, dir),
+            third: Number::ZERO,
+        }
     }
-}
 
-// Water, chemical, hazard: ingestion, vapour and skin.
-fn water_chemical_hazard(p: Prepared, t: ContaminantNumbers, dir: Direction) -> PathwayTerms
-    requires { Ready dir p t }
-    ensures { SideFor dir p.factors t (pathways_of 2 1 Hazard) result }
-{
-    let e = p.factors.exposure;
-    let k = p.factors.contact;
-    let x = t.toxicity;
-    let pc = t.transfer.pc;
-    let back = dir.opposite();
-    let oral = product3(x.rfdo, e.bw, DAYS, back);
-    let inhaled = product3(x.rfdi, e.bw, DAYS, back);
-    let absorbed = product3(product3(k.sa, pc, k.et, dir), THOUSANDTH, e.ef, dir);
-    PathwayTerms {
-        first: p.water_intake.div(oral, dir),
-        second: p.vapour_intake.div(inhaled, dir),
-        third: absorbed.div(oral, dir),
+    // Soil, chemical, hazard: ingestion and inhalation.
+    fn soil_chemical_hazard(self, b: Number) -> PathwayTerms
+        requires { Air self.dir self.p self.t b }
+        ensures { SideFor self.dir self.p.factors self.t (pathways_of 1 1 Hazard) result }
+    {
+        let Given { p, t, dir } = self;
+        let e = p.factors.exposure;
+        let k = p.factors.contact;
+        let x = t.toxicity;
+        let back = dir.opposite();
+        let oral = product3(x.rfdo, e.bw, DAYS, back);
+        let inhaled = product3(x.rfdi, e.bw, DAYS, back);
+        PathwayTerms {
+            first: p.soil_intake.div(oral, dir),
+            second: product3(k.ira, b, e.ef, dir).div(inhaled, dir),
+            third: Number::ZERO,
+        }
     }
-}
 
-// Water, radionuclide, risk: ingestion.
-fn water_radionuclide_risk(p: Prepared, t: ContaminantNumbers, dir: Direction) -> PathwayTerms
-    requires { Ready dir p t }
-    ensures { SideFor dir p.factors t (pathways_of 2 2 Risk) result }
-{
-    let e = p.factors.exposure;
-    let k = p.factors.contact;
-    let x = t.toxicity;
-    PathwayTerms {
-        first: product3(x.sfo.mul(k.ir, dir), e.ef, e.ed, dir),
-        second: Number::ZERO,
-        third: Number::ZERO,
+    // Soil, radionuclide, risk: ingestion, inhalation and external radiation.
+    fn soil_radionuclide_risk(self) -> PathwayTerms
+        ensures { SideFor self.dir self.p.factors self.t (pathways_of 1 2 Risk) result }
+    {
+        let Given { p, t, dir } = self;
+        let e = p.factors.exposure;
+        let k = p.factors.contact;
+        let x = t.toxicity;
+        let inhaled = product3(x.sfi.mul(k.ira, dir), e.ef, e.ed, dir);
+        let outdoors = product3(x.sfx, k.et, k.rf, dir).mul(YEARS_PER_HOUR, dir);
+        PathwayTerms {
+            first: product3(product3(x.sfo, k.ir, MILLIONTH, dir), e.ef, e.ed, dir),
+            second: inhaled.div(k.pef, dir),
+            third: product3(outdoors, e.ef, e.ed, dir),
+        }
+    }
+
+    // Water, chemical, risk: ingestion, vapour and skin.
+    fn water_chemical_risk(self) -> PathwayTerms
+        ensures { SideFor self.dir self.p.factors self.t (pathways_of 2 1 Risk) result }
+    {
+        let Given { p, t, dir } = self;
+        let e = p.factors.exposure;
+        let k = p.factors.contact;
+        let x = t.toxicity;
+        let pc = t.transfer.pc;
+        let swallowed = product3(x.sfo.mul(k.ir, dir), e.ef, e.ed, dir);
+        let inhaled = product3(product3(x.sfi, k.ira, HALF, dir), e.ef, e.ed, dir);
+        let wet = product3(product3(x.sfo, k.sa, pc, dir), k.et, THOUSANDTH, dir);
+        let absorbed = product3(wet, e.ef, e.ed, dir);
+        PathwayTerms {
+            first: swallowed.div(p.lifetime, dir),
+            second: inhaled.div(p.lifetime, dir),
+            third: absorbed.div(p.lifetime, dir),
+        }
+    }
+
+    // Water, chemical, hazard: ingestion, vapour and skin.
+    fn water_chemical_hazard(self) -> PathwayTerms
+        ensures { SideFor self.dir self.p.factors self.t (pathways_of 2 1 Hazard) result }
+    {
+        let Given { p, t, dir } = self;
+        let e = p.factors.exposure;
+        let k = p.factors.contact;
+        let x = t.toxicity;
+        let pc = t.transfer.pc;
+        let back = dir.opposite();
+        let oral = product3(x.rfdo, e.bw, DAYS, back);
+        let inhaled = product3(x.rfdi, e.bw, DAYS, back);
+        let absorbed = product3(product3(k.sa, pc, k.et, dir), THOUSANDTH, e.ef, dir);
+        PathwayTerms {
+            first: p.water_intake.div(oral, dir),
+            second: p.vapour_intake.div(inhaled, dir),
+            third: absorbed.div(oral, dir),
+        }
+    }
+
+    // Water, radionuclide, risk: ingestion.
+    fn water_radionuclide_risk(self) -> PathwayTerms
+        ensures { SideFor self.dir self.p.factors self.t (pathways_of 2 2 Risk) result }
+    {
+        let Given { p, t, dir } = self;
+        let e = p.factors.exposure;
+        let k = p.factors.contact;
+        let x = t.toxicity;
+        PathwayTerms {
+            first: product3(x.sfo.mul(k.ir, dir), e.ef, e.ed, dir),
+            second: Number::ZERO,
+            third: Number::ZERO,
+        }
     }
 }
 
@@ -169,40 +179,38 @@ fn no_side() -> PathwayTerms
     }
 }
 
-// The terms of both sides in a medium (1 soil, 2 water) for a class (1 chemical, 2 radionuclide).
+// The terms of both sides in a medium for a class.
 pub fn terms_of(
     p: Prepared,
     t: ContaminantNumbers,
-    medium: u32,
-    class: u32,
+    medium: Medium,
+    class: Class,
     dir: Direction,
 ) -> Terms
-    requires { Ready dir p t × (OneOrTwo medium × OneOrTwo class) }
-    ensures { TermsFor dir p.factors t medium class result }
+    requires { Ready dir p t }
+    ensures { TermsFor dir p.factors t (medium_number medium) (class_number class) result }
 {
-    if class == 2 {
-        let hazard = no_side();
-        if medium == 1 {
-            return Terms {
-                risk: soil_radionuclide_risk(p, t, dir),
-                hazard,
-            };
+    let given = Given { p, t, dir };
+    match (class, medium) {
+        (Class::Chemical, Medium::Soil) => {
+            let b = given.air();
+            Terms {
+                risk: given.soil_chemical_risk(b),
+                hazard: given.soil_chemical_hazard(b),
+            }
         }
-        return Terms {
-            risk: water_radionuclide_risk(p, t, dir),
-            hazard,
-        };
-    }
-    if medium == 1 {
-        let b = air(p, t, dir);
-        return Terms {
-            risk: soil_chemical_risk(p, t, b, dir),
-            hazard: soil_chemical_hazard(p, t, b, dir),
-        };
-    }
-    Terms {
-        risk: water_chemical_risk(p, t, dir),
-        hazard: water_chemical_hazard(p, t, dir),
+        (Class::Radionuclide, Medium::Soil) => Terms {
+            risk: given.soil_radionuclide_risk(),
+            hazard: no_side(),
+        },
+        (Class::Chemical, Medium::Water) => Terms {
+            risk: given.water_chemical_risk(),
+            hazard: given.water_chemical_hazard(),
+        },
+        (Class::Radionuclide, Medium::Water) => Terms {
+            risk: given.water_radionuclide_risk(),
+            hazard: no_side(),
+        },
     }
 }
 

@@ -7,13 +7,13 @@ ghost use Rattle.gv_rules.specs.Exports.{built_in_sent, built_in_put};
 
 use block_rules::{BLOCK_SIZE, Header};
 use inputs::{Contaminant, Scenario};
-use outcome::{Refusal, Refused, in_block};
+use outcome::{Refusal, Refused, located};
 
 // Whether a place keeps its rule, and a contaminant's class, id and decimals.
 fn contaminant_fit(place: u32, r: Contaminant) -> bool
     ensures { result ≡ contaminant_fit place r }
 {
-    inputs::both(blocks::in_file(place), inputs::contaminant_fits(r))
+    blocks::in_file(place) & inputs::contaminant_fits(r)
 }
 
 // What the writer of kind 1 sends back where so many bytes are lent: 10, 4 for the count, the tests of the scenario.
@@ -48,7 +48,7 @@ fn contaminant_refusal(room: usize, place: u32, r: Contaminant) -> Result<(), Re
 pub fn write_header(out: &mut [u8], h: Header) -> Result<(), Refused>
     ensures { (result ≡ header_answer (length out.old) h) × (out.new ≡ header_left out.old h) }
 {
-    in_block(header_refusal(out.len(), h), 0)?;
+    located(header_refusal(out.len(), h), 0)?;
     block_output::put_header(out, h);
     Ok(())
 }
@@ -57,7 +57,7 @@ pub fn write_header(out: &mut [u8], h: Header) -> Result<(), Refused>
 pub fn write_contaminant(out: &mut [u8], place: u32, r: Contaminant) -> Result<(), Refused>
     ensures { (result ≡ contaminant_answer (length out.old) place r) × (out.new ≡ contaminant_left out.old place r) }
 {
-    in_block(contaminant_refusal(out.len(), place, r), 0)?;
+    located(contaminant_refusal(out.len(), place, r), 0)?;
     block_output::put_contaminant(out, place, r);
     Ok(())
 }

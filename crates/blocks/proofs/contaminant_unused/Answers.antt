@@ -11,5 +11,5 @@ use Rattle.blocks.proofs.contaminant_unused.Goals as goal
 pub returns : goal.returns
 unfolding contaminant_unused
 returns c =
-    c.both.ensures ∙ ap₂ (λ (x y : Bool). x && y) c.unused_zero.ensures c.all_zero.ensures
+    ap₂ (λ (x y : Bool). x && y) c.unused_zero.ensures c.all_zero.ensures
     ∙ sym (record_unused contaminant_places (unused_bytes contaminant_pieces) c.args.part.now c.args.at)

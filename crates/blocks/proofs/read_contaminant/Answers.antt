@@ -1,5 +1,5 @@
 -- `blocks::read_contaminant`: the tests in the order of the definition, each on the part that the definition names.
-use Rattle.std.proofs.Common.{◌≡◌, ◌≤◌, ◌+◌, ℕ, List, Bool, true, false, length, eqb, arith, rules, sym, ◌∙◌}
+use Rattle.std.proofs.Common.{◌≡◌, ◌≤◌, ◌+◌, ℕ, List, Bool, true, false, length, eqb, arith, rules, refl, sym, ◌∙◌}
 use mathlib.Core.Bool.{◌&&◌}
 use borrow.Author.Tests.{ne_eqb, le-leb, lt-leb}
 use Rattle.words.specs.Words.{part_of}
@@ -9,7 +9,7 @@ use Rattle.blocks.proofs.Parts.{block_fits}
 use Rattle.blocks.proofs.Answers.{Passed, sound_here, kind_here, passed_here, contaminant_here, contaminant_fields_here}
 use Rattle.blocks.proofs.Answers.{contaminant_short, contaminant_check, contaminant_kind, contaminant_field, contaminant_order, contaminant_found}
 use Rattle.blocks.proofs.read_contaminant.Goals as goal
-use Rattle.blocks.proofs.read_contaminant.Goals.{After-both, Else-not-has_block}
+use Rattle.blocks.proofs.read_contaminant.Goals.{After-contaminant_unused, Else-not-has_block}
 
 -- ---- what is known once there is a whole block, and once the tests of the fields are made
 abbrev bytes : Else-not-has_block → List ℕ
@@ -21,20 +21,20 @@ long c = sym c.has_block.ensures ∙ c.if-not-has_block.false
 room : (c : Else-not-has_block) → c.args.at + 512 ≤ length c.args.site.now
 room c = block_fits c.args.site.now c.args.at (long c)
 
-abbrev block : After-both → List ℕ
+abbrev block : After-contaminant_unused → List ℕ
 block c = part_of c.args.site.now c.args.at 512
 
-passed : (c : After-both) → Passed (block c) c.args.place 2
+passed : (c : After-contaminant_unused) → Passed (block c) c.args.place 2
 passed c =
     passed_here c.args.site.now c.args.at c.has_block.ensures c.if-not-has_block.false c.sound.ensures c.if-not-sound.false c.word.ensures (omega arith)
 
-is : (c : After-both) → c.get_contaminant-r.result ≡ contaminant_at (block c) 8
+is : (c : After-contaminant_unused) → c.get_contaminant-r.result ≡ contaminant_at (block c) 8
 is c = contaminant_here c.args.site.now c.args.at c.get_contaminant-r.result c.get_contaminant-r.ensures
 
-fields_fit : (c : After-both) (t : Bool) → c.both.result ≡ t
+fields_fit : (c : After-contaminant_unused) (t : Bool) → c.contaminant_fits.result && c.contaminant_unused.result ≡ t
     → contaminant_fits c.get_contaminant-r.result && contaminant_unused (block c) 8 ≡ t
 fields_fit c t e =
-    sym (contaminant_fields_here c.args.site.now c.args.at c.get_contaminant-r.result _ _ _ c.both.ensures c.contaminant_fits.ensures c.contaminant_unused.ensures)
+    sym (contaminant_fields_here c.args.site.now c.args.at c.get_contaminant-r.result _ _ _ refl c.contaminant_fits.ensures c.contaminant_unused.ensures)
     ∙ e
 
 -- ---- the answers
@@ -60,19 +60,19 @@ returns-then-word-ne2 c =
     (sound_here c.args.site.now c.args.at c.args.place _ c.sound.ensures ∙ c.if-not-sound.false)
     (kind_here c.args.site.now c.args.at 2 _ false c.word.ensures (ne_eqb _ _ c.if-word-ne2.true))
 
-pub returns-then-not-both : goal.returns-then-not-both
-returns-then-not-both c =
-    let fields = (goal.at.returns-then-not-both c).After-both in
-    contaminant_field (block fields) c.args.place c.args.previous (passed fields) c.get_contaminant-r.result (is fields) (fields_fit fields false c.if-not-both.true)
+pub returns-then-not-fit : goal.returns-then-not-fit
+returns-then-not-fit c =
+    let fields = (goal.at.returns-then-not-fit c).After-contaminant_unused in
+    contaminant_field (block fields) c.args.place c.args.previous (passed fields) c.get_contaminant-r.result (is fields) (fields_fit fields false c.if-not-fit.true)
 
 pub returns-then-r-previous : goal.returns-then-r-previous
 returns-then-r-previous c =
-    let fields = (goal.at.returns-then-r-previous c).After-both in
-    contaminant_order (block fields) c.args.place c.args.previous (passed fields) c.get_contaminant-r.result (is fields) (fields_fit fields true c.if-not-both.false)
+    let fields = (goal.at.returns-then-r-previous c).After-contaminant_unused in
+    contaminant_order (block fields) c.args.place c.args.previous (passed fields) c.get_contaminant-r.result (is fields) (fields_fit fields true c.if-not-fit.false)
     (le-leb _ _ c.if-r-previous.true)
 
 pub returns : goal.returns
 returns c =
-    let fields = (goal.at.returns c).After-both in
-    contaminant_found (block fields) c.args.place c.args.previous (passed fields) c.get_contaminant-r.result (is fields) (fields_fit fields true c.if-not-both.false)
+    let fields = (goal.at.returns c).After-contaminant_unused in
+    contaminant_found (block fields) c.args.place c.args.previous (passed fields) c.get_contaminant-r.result (is fields) (fields_fit fields true c.if-not-fit.false)
     (lt-leb _ _ c.if-r-previous.false)

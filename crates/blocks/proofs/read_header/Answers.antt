@@ -1,5 +1,5 @@
 -- `blocks::read_header`: the tests in the order of the definition, each on the part that the definition names.
-use Rattle.std.proofs.Common.{◌≡◌, ◌≤◌, ◌+◌, ℕ, List, Bool, true, false, length, eqb, rules, sym, ◌∙◌}
+use Rattle.std.proofs.Common.{◌≡◌, ◌≤◌, ◌+◌, ℕ, List, Bool, true, false, length, eqb, rules, refl, sym, ◌∙◌}
 use mathlib.Core.Bool.{◌&&◌}
 use borrow.Author.Tests.{ne_eqb}
 use Rattle.words.specs.Words.{part_of}
@@ -9,7 +9,7 @@ use Rattle.blocks.proofs.Parts.{block_fits}
 use Rattle.blocks.proofs.Answers.{Passed, sound_here, kind_here, passed_here, header_here, header_fields_here}
 use Rattle.blocks.proofs.Answers.{header_short, header_check, header_kind, header_field, header_count, header_factor, header_found}
 use Rattle.blocks.proofs.read_header.Goals as goal
-use Rattle.blocks.proofs.read_header.Goals.{After-both, Else-not-has_block}
+use Rattle.blocks.proofs.read_header.Goals.{After-header_unused, Else-not-has_block}
 
 -- ---- what is known once there is a whole block, and once the tests of the fields are made
 abbrev bytes : Else-not-has_block → List ℕ
@@ -21,20 +21,20 @@ long c = sym c.has_block.ensures ∙ c.if-not-has_block.false
 room : (c : Else-not-has_block) → 0 + 512 ≤ length c.args.site.now
 room c = block_fits c.args.site.now 0 (long c)
 
-abbrev block : After-both → List ℕ
+abbrev block : After-header_unused → List ℕ
 block c = part_of c.args.site.now 0 512
 
-passed : (c : After-both) → Passed (block c) 0 1
+passed : (c : After-header_unused) → Passed (block c) 0 1
 passed c =
     passed_here c.args.site.now 0 c.has_block.ensures c.if-not-has_block.false c.sound.ensures c.if-not-sound.false c.word.ensures c.if-word-ne1.false
 
-is : (c : After-both) → c.get_header-h.result ≡ header_at (block c) 8
+is : (c : After-header_unused) → c.get_header-h.result ≡ header_at (block c) 8
 is c = header_here c.args.site.now c.get_header-h.result c.get_header-h.ensures
 
-fields_fit : (c : After-both) (t : Bool) → c.both.result ≡ t
+fields_fit : (c : After-header_unused) (t : Bool) → c.scenario_fits.result && c.header_unused.result ≡ t
     → scenario_fits c.get_header-h.result.scenario c.get_header-h.result.medium && header_unused (block c) 8 ≡ t
 fields_fit c t e =
-    sym (header_fields_here c.args.site.now c.get_header-h.result _ _ _ c.both.ensures c.scenario_fits.ensures c.header_unused.ensures) ∙ e
+    sym (header_fields_here c.args.site.now c.get_header-h.result _ _ _ refl c.scenario_fits.ensures c.header_unused.ensures) ∙ e
 
 -- ---- the answers
 pub returns-then-not-has_block : goal.returns-then-not-has_block
@@ -57,25 +57,25 @@ returns-then-word-ne1 c =
 pub slice_bounds-part-end : goal.slice_bounds-part-end
 slice_bounds-part-end c = let h = room (goal.at.slice_bounds-part-end c).Else-not-has_block in search rules
 
-pub returns-then-not-both : goal.returns-then-not-both
-returns-then-not-both c =
-    let fields = (goal.at.returns-then-not-both c).After-both in
-    header_field (block fields) c.args.blocks (passed fields) c.get_header-h.result (is fields) (fields_fit fields false c.if-not-both.true)
+pub returns-then-not-fit : goal.returns-then-not-fit
+returns-then-not-fit c =
+    let fields = (goal.at.returns-then-not-fit c).After-header_unused in
+    header_field (block fields) c.args.blocks (passed fields) c.get_header-h.result (is fields) (fields_fit fields false c.if-not-fit.true)
 
 pub returns-then-not-count_ok : goal.returns-then-not-count_ok
 returns-then-not-count_ok c =
-    let fields = (goal.at.returns-then-not-count_ok c).After-both in
-    header_count (block fields) c.args.blocks (passed fields) c.get_header-h.result (is fields) (fields_fit fields true c.if-not-both.false)
+    let fields = (goal.at.returns-then-not-count_ok c).After-header_unused in
+    header_count (block fields) c.args.blocks (passed fields) c.get_header-h.result (is fields) (fields_fit fields true c.if-not-fit.false)
     (sym c.count_ok.ensures ∙ c.if-not-count_ok.true)
 
 pub returns-then-lacks_factor : goal.returns-then-lacks_factor
 returns-then-lacks_factor c =
-    let fields = (goal.at.returns-then-lacks_factor c).After-both in
-    header_factor (block fields) c.args.blocks (passed fields) c.get_header-h.result (is fields) (fields_fit fields true c.if-not-both.false)
+    let fields = (goal.at.returns-then-lacks_factor c).After-header_unused in
+    header_factor (block fields) c.args.blocks (passed fields) c.get_header-h.result (is fields) (fields_fit fields true c.if-not-fit.false)
     (sym c.count_ok.ensures ∙ c.if-not-count_ok.false) (sym c.lacks_factor.ensures ∙ c.if-lacks_factor.true)
 
 pub returns : goal.returns
 returns c =
-    let fields = (goal.at.returns c).After-both in
-    header_found (block fields) c.args.blocks (passed fields) c.get_header-h.result (is fields) (fields_fit fields true c.if-not-both.false)
+    let fields = (goal.at.returns c).After-header_unused in
+    header_found (block fields) c.args.blocks (passed fields) c.get_header-h.result (is fields) (fields_fit fields true c.if-not-fit.false)
     (sym c.count_ok.ensures ∙ c.if-not-count_ok.false) (sym c.lacks_factor.ensures ∙ c.if-lacks_factor.false)

@@ -4,4 +4,4 @@ use Rattle.blocks.proofs.sound.Goals as goal
 
 pub returns : goal.returns
 unfolding sound_at
-returns c = rw (c.both.ensures, c.sum-sum.ensures, c.word-found.ensures)
+returns c = rw (c.sum-sum.ensures, c.word-found.ensures)

@@ -12,32 +12,32 @@ pub work-w-requires : goal.work-w-requires
 work-w-requires c =
     let p = c.requires.0 in
     let read = read_ok c.args.site.now c.args.place p.ok c.get_contaminant-r.ensures in
-    record { ready = p.ready; passed = p.passed; contaminant = read.fits }
+    record { known = p.known; contaminant = read.fits }
 
 pub columns_of-g-requires : goal.columns_of-g-requires
 columns_of-g-requires c =
     let p = c.requires.0 in
     let read = read_ok c.args.site.now c.args.place p.ok c.get_contaminant-r.ensures in
-    block_wide p.ready p.passed read c.work-w.ensures
+    block_wide p.known read c.work-w.ensures
 
 pub decimals-risk-requires : goal.decimals-risk-requires
 decimals-risk-requires c =
     let p = c.requires.0 in
     let read = read_ok c.args.site.now c.args.place p.ok c.get_contaminant-r.ensures in
-    risk_printable p.ready p.passed read c.work-w.ensures c.columns_of-g.ensures.0 c.columns_of-g.ensures.1
+    risk_printable p.known read c.work-w.ensures c.columns_of-g.ensures.0 c.columns_of-g.ensures.1
 
 pub decimals-hazard-requires : goal.decimals-hazard-requires
 decimals-hazard-requires c =
     let p = c.requires.0 in
     let read = read_ok c.args.site.now c.args.place p.ok c.get_contaminant-r.ensures in
-    hazard_printable p.ready p.passed read c.work-w.ensures c.columns_of-g.ensures.0 c.columns_of-g.ensures.1
+    hazard_printable p.known read c.work-w.ensures c.columns_of-g.ensures.0 c.columns_of-g.ensures.1
 
 pub add_shares-requires : goal.add_shares-requires
 add_shares-requires c =
     let p = c.requires.0 in
     let read = read_ok c.args.site.now c.args.place p.ok c.get_contaminant-r.ensures in
     let g = c.columns_of-g.ensures in
-    shares_fit p.ready p.passed read c.work-w.ensures g.0 g.1 (omega (arith, p.most)) p.runs
+    shares_fit p.known read c.work-w.ensures g.0 g.1 (omega (arith, p.most)) p.runs
 
 pub returns : goal.returns
 returns c =
@@ -52,9 +52,9 @@ returns c =
     let u = c.columns_of-g.ensures.0 in
     let v = c.columns_of-g.ensures.1 in
     let q : ◌≡◌ {A = Contaminant} r _ = read_is site place r c.get_contaminant-r.ensures in
-    let g = guideline_is pre.ready pre.passed read k u v in
-    let m = one_more pre.ready pre.passed read k u v (omega (arith, pre.most)) pre.runs c.add_shares.ensures in (
-      subst (λ (x : Contaminant). NextRuns p x place c.args.x c.add_shares.result) q m,
+    let g = guideline_is pre.known read k u v in
+    let m = one_more pre.known read k u v (omega (arith, pre.most)) pre.runs c.add_shares.ensures in (
+      subst (λ (x : Contaminant). NextRuns p x place c.args.runs.now c.add_shares.new.self) q m,
       c.put_result.ensures ∙
           ap₂ (λ (x y : SideGuidelines). over (result_block place r.class r.id x y) out) c.decimals-risk.ensures c.decimals-hazard.ensures ∙
           ap (λ (b : List ℕ). over b out) (block_is p.scenario p.medium site place r _ _ q g),

@@ -10,7 +10,7 @@ use Rattle.result_blocks.proofs.put_blocks.Goals as goal
 pub loop-k-init : goal.loop-k-init
 loop-k-init c =
     let a = c.args in record {
-      sums = along_first a.p a.site.now a.count c.no_runs-x.ensures;
+      sums = along_first a.p a.site.now a.count c.no_runs-runs.ensures;
       written = none_written a.p.scenario a.p.medium a.site.now a.out.now (omega (arith, c.requires.1));
     }
 
@@ -22,8 +22,8 @@ slice_bounds-put_block-end c =
     (omega (arith, c.loop-k-test.true, c.requires.1)) c.loop-k.invariant.written in
     omega (arith, m, c.requires.1, c.loop-k-test.true)
 
-pub put_block-x-requires : goal.put_block-x-requires
-put_block-x-requires c =
+pub put_block-requires : goal.put_block-requires
+put_block-requires c =
     let p = c.requires.0 in
     let k = c.loop-k.k in
     let below = c.loop-k-test.true in
@@ -34,8 +34,7 @@ put_block-x-requires c =
     let rest = drop a c.loop-k.out in
     let q : length (take (a + 512 - a) rest) ≡ a + 512 - a = length-take-le (a + 512 - a) rest (simp length-drop (omega (arith, m, c.requires.1, below))) in (
       record {
-        ready = p.ready;
-        passed = p.passed;
+        known = p.known;
         long = omega (arith, p.long, below);
         most = omega (arith, p.most, below);
         ok = p.records (k + 1) (omega arith) (omega (arith, below));
@@ -50,9 +49,9 @@ loop-k-preserved c =
     let site = a.site.now in
     let k = c.loop-k.k in
     let below = c.loop-k-test.true in record {
-      sums = along_next a.p site a.count k below c.loop-k.invariant.sums c.put_block-x.ensures.0;
-      written = block_lent a.p.scenario a.p.medium site a.out.now c.loop-k.out c.put_block-x.new.out k
-          (omega (arith, below, c.requires.1)) c.loop-k.invariant.written (512 * (k + 1)) (512 * (k + 1) + 512) refl refl c.put_block-x.ensures.1;
+      sums = along_next a.p site a.count k below c.loop-k.invariant.sums c.put_block.ensures.0;
+      written = block_lent a.p.scenario a.p.medium site a.out.now c.loop-k.out c.put_block.new.out k
+          (omega (arith, below, c.requires.1)) c.loop-k.invariant.written (512 * (k + 1)) (512 * (k + 1) + 512) refl refl c.put_block.ensures.1;
     }
 
 pub returns : goal.returns

@@ -7,6 +7,6 @@ use Rattle.result_blocks.proofs.put_blocks.Given as goal
 
 abbrev pub invariant-loop-k : goal.invariant-loop-k
 invariant-loop-k l = record {
-  sums : Along l.p l.site l.count l.k l.x;
+  sums : Along l.p l.site l.count l.k l.runs;
   written : l.out ≡ over (take 512 l.initial.out ++ results_to l.p.scenario l.p.medium l.site l.k) l.initial.out;
 }

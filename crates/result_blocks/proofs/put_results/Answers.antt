@@ -7,7 +7,7 @@ use Rattle.block_rules.specs.Layouts.{summary_block}
 use Rattle.sum_rules.specs.ListCall.{accepted}
 use Rattle.sum_rules.specs.declared.SideSums.{SideSums}
 use Rattle.sums.proofs.Comparisons.{runs_comparable}
-use Rattle.shares.specs.declared.Plan.{Plan}
+use Rattle.shares.specs.declared.plan.Plan.{Plan}
 use Rattle.site_rules.specs.Results.{results_to}
 use Rattle.site_rules.proofs.OutputBlocks.{results_long}
 use Rattle.result_blocks.proofs.Output.{summary_lent}
@@ -31,26 +31,25 @@ module _ (p : Plan) (site : List ℕ) (count : ℕ) (d : List ℕ) {out : List �
 
 pub reported-a-requires : goal.reported-a-requires
 reported-a-requires c =
-    let w = c.requires.0 in
-    (w.ready, runs_comparable (omega (arith, w.most)) c.put_blocks-x.ensures.0.ready)
+    runs_comparable (omega (arith, c.requires.0.most)) c.put_blocks-runs.ensures.0.ready
 
 pub slice_bounds-put_summary-end : goal.slice_bounds-put_summary-end
 slice_bounds-put_summary-end c =
     let a = c.args in
-    let n = long-out a.p a.site.now a.count a.out.now c.put_blocks-x.ensures.1 c.requires.1 in
+    let n = long-out a.p a.site.now a.count a.out.now c.put_blocks-runs.ensures.1 c.requires.1 in
     omega (arith, n, c.requires.1)
 
 pub put_summary-requires : goal.put_summary-requires
 put_summary-requires c =
     let a = c.args in
-    let n = long-out a.p a.site.now a.count a.out.now c.put_blocks-x.ensures.1 c.requires.1 in
-    let q = length-take-le 512 c.put_blocks-x.new.out (omega (arith, n, c.requires.1)) in
+    let n = long-out a.p a.site.now a.count a.out.now c.put_blocks-runs.ensures.1 c.requires.1 in
+    let q = length-take-le 512 c.put_blocks-runs.new.out (omega (arith, n, c.requires.1)) in
     omega (arith, q)
 
 pub returns : goal.returns
 returns c =
     let a = c.args in
-    let added = c.put_blocks-x.ensures.0 in (
+    let added = c.put_blocks-runs.ensures.0 in (
       ap Ok c.reported-a.ensures ∙ ap₂ (accepted a.p.scenario) added.risk added.hazard,
-      written a.p a.site.now a.count a.out.now c.put_blocks-x.ensures.1 c.requires.1 _ _ c.put_summary.ensures,
+      written a.p a.site.now a.count a.out.now c.put_blocks-runs.ensures.1 c.requires.1 _ _ c.put_summary.ensures,
     )

@@ -40,15 +40,15 @@ record_refusal-requires c =
       contaminant = (found_record c.args.site.now (k + 1) c.loop-k.previous c.in_ok-r.r (was_read (k + 1) c.read_contaminant.ensures c.in_ok-r.ensures)).valid;
     }
 
-pub returns-in_err-in_block : goal.returns-in_err-in_block
+pub returns-in_err-located : goal.returns-in_err-located
 unfolding block_at
-returns-in_err-in_block c =
+returns-in_err-located c =
     let a = c.args in
     let k = c.loop-k.k in
-    let x = c.from_residual-in_err-in_block in
+    let x = c.from_residual-in_err-located in
     handed_back x.result x.ensures.1 ∙
     sym (turn_record a.s a.medium a.site.now a.count k c.loop-k.previous c.loop-k-test.true (was_read (k + 1) c.read_contaminant.ensures c.in_ok-r.ensures)
-    c.record_refusal.ensures (sym c.in_err-in_block.ensures)) ∙ c.loop-k.invariant
+    c.record_refusal.ensures (sym c.in_err-located.ensures)) ∙ c.loop-k.invariant
 
 pub loop-k-preserved : goal.loop-k-preserved
 unfolding block_at
@@ -56,7 +56,7 @@ loop-k-preserved c =
     let a = c.args in
     let k = c.loop-k.k in
     sym (turn_next a.s a.medium a.site.now a.count k c.loop-k.previous c.loop-k-test.true (was_read (k + 1) c.read_contaminant.ensures c.in_ok-r.ensures)
-    (tests_passed c.record_refusal.ensures (k + 1) (sym c.in_ok-in_block.ensures))) ∙ c.loop-k.invariant
+    (tests_passed c.record_refusal.ensures (k + 1) (sym c.in_ok-located.ensures))) ∙ c.loop-k.invariant
 
 pub returns : goal.returns
 returns c =

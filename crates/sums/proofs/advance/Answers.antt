@@ -5,10 +5,10 @@ use Rattle.sums.proofs.States.{stopped_record}
 use Rattle.sums.proofs.Steps.{workable, next_runs, addable, moved_steps}
 use Rattle.sums.proofs.advance.Goals as goal
 
-pub returns-in_err-in_block : goal.returns-in_err-in_block
-returns-in_err-in_block c =
+pub returns-in_err-located : goal.returns-in_err-located
+returns-in_err-located c =
     let p = c.requires in
-    rw (handed_back c.from_residual.result c.from_residual.ensures.1) (stopped_record p.fits p.rising c.record_refusal.ensures (sym c.in_err-in_block.ensures))
+    rw (handed_back c.from_residual.result c.from_residual.ensures.1) (stopped_record p.fits p.rising c.record_refusal.ensures (sym c.in_err-located.ensures))
 
 pub add_shares-requires : goal.add_shares-requires
 add_shares-requires c =
@@ -21,4 +21,4 @@ returns c =
     let p = c.requires in
     let sums =
     next_runs (workable p) c.work-w.ensures c.total-risk.ensures.0 c.total-hazard.ensures.0 p.good.place p.good.runs c.add_shares.ensures in
-    moved_steps p (tests_passed c.record_refusal.ensures c.args.t.place (sym c.in_ok-in_block.ensures)) sums
+    moved_steps p (tests_passed c.record_refusal.ensures c.args.t.place (sym c.in_ok-located.ensures)) sums

@@ -5,17 +5,17 @@ use Rattle.sums.proofs.reported.Goals as goal
 
 pub side_sums-requires : goal.side_sums-requires
 side_sums-requires c =
-    let target = risk_target c.args.p.scenario c.args.p.up.factors c.requires.0.factors in
-    (c.requires.1.risk, stands_most (lit≤ tt) (stands_own target))
+    let target = risk_target c.args.p.scenario c.args.p.up.factors c.args.p.ready.factors in
+    (c.requires.risk, stands_most (lit≤ tt) (stands_own target))
 
 pub side_sums-requires-2 : goal.side_sums-requires-2
 side_sums-requires-2 c =
-    let target = hazard_target c.args.p.scenario c.args.p.up.factors c.requires.0.factors in
-    (c.requires.1.hazard, stands_most (lit≤ tt) (stands_own target))
+    let target = hazard_target c.args.p.scenario c.args.p.up.factors c.args.p.ready.factors in
+    (c.requires.hazard, stands_most (lit≤ tt) (stands_own target))
 
 pub returns : goal.returns
 returns c =
-    let f = c.requires.0.factors in
+    let f = c.args.p.ready.factors in
     let tr = risk_target c.args.p.scenario c.args.p.up.factors f in
     let thi = hazard_target c.args.p.scenario c.args.p.up.factors f in
     rw (c.side_sums.ensures, c.side_sums-2.ensures, tr.is, thi.is)

@@ -4,4 +4,4 @@ use Rattle.writers.proofs.contaminant_fit.Goals as goal
 
 pub returns : goal.returns
 unfolding contaminant_fit
-returns c = rw (c.both.ensures, c.in_file.ensures, c.contaminant_fits.ensures)
+returns c = rw (c.in_file.ensures, c.contaminant_fits.ensures)

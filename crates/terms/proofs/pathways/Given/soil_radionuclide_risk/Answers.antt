@@ -1,4 +1,4 @@
--- `terms::pathways::soil_radionuclide_risk`: each term is that of its formula in the table.
+-- `terms::pathways::Given::soil_radionuclide_risk`: each term is that of its formula in the table.
 use Rattle.std.proofs.Common.{◌≡◌, [], ◌∷◌}
 use lib.Dec.{lit≤}
 use Rattle.rounding.specs.declared.Direction.{Direction}
@@ -14,7 +14,7 @@ use Rattle.terms.specs.Side.{number_values, Ready}
 use Rattle.factors.proofs.StandsLaws.{stands_div, stands_middle, stands_mul, stands_mul3, stands_operand}
 use Rattle.factors.proofs.Constants.{num}
 use Rattle.terms.proofs.NumberValues.{named, input, middle, range, side_term}
-use Rattle.terms.proofs.pathways.soil_radionuclide_risk.Goals as goal
+use Rattle.terms.proofs.pathways.Given.soil_radionuclide_risk.Goals as goal
 
 -- ---- what the code multiplies
 module _ {dir : Direction} {p : Prepared} {t : ContaminantNumbers} (ready : Ready dir p t) where
@@ -45,40 +45,40 @@ module _ {dir : Direction} {p : Prepared} {t : ContaminantNumbers} (ready : Read
 
 -- ---- what it may multiply and divide
 pub mul-requires : goal.mul-requires
-mul-requires c = let r = range c.requires in (r SFi, r IRA)
+mul-requires c = let r = range c.args.self.ready in (r SFi, r IRA)
 
 pub product3-inhaled-requires : goal.product3-inhaled-requires
-product3-inhaled-requires c = let r = middle c.requires in (stands_middle (lit≤ tt) (inhaled2 c.requires c.mul.ensures.0), (r EF, r ED))
+product3-inhaled-requires c = let r = middle c.args.self.ready in (stands_middle (lit≤ tt) (inhaled2 c.args.self.ready c.mul.ensures.0), (r EF, r ED))
 
 pub product3-requires : goal.product3-requires
-product3-requires c = let r = middle c.requires in (r SFx, (r ET, r RF))
+product3-requires c = let r = middle c.args.self.ready in (r SFx, (r ET, r RF))
 
 pub mul-outdoors-requires : goal.mul-outdoors-requires
-mul-outdoors-requires c = let r = range c.requires in ((stands_operand (lit≤ tt) (outdoors3 c.requires c.product3.ensures.0)).range, r YearsPerHour)
+mul-outdoors-requires c = let r = range c.args.self.ready in ((stands_operand (lit≤ tt) (outdoors3 c.args.self.ready c.product3.ensures.0)).range, r YearsPerHour)
 
 pub product3-requires-2 : goal.product3-requires-2
-product3-requires-2 c = let r = middle c.requires in (r SFo, (r IR, r Millionth))
+product3-requires-2 c = let r = middle c.args.self.ready in (r SFo, (r IR, r Millionth))
 
 pub product3-requires-3 : goal.product3-requires-3
-product3-requires-3 c = let r = middle c.requires in (stands_middle (lit≤ tt) (oral3 c.requires c.product3-2.ensures.0), (r EF, r ED))
+product3-requires-3 c = let r = middle c.args.self.ready in (stands_middle (lit≤ tt) (oral3 c.args.self.ready c.product3-2.ensures.0), (r EF, r ED))
 
 pub div-requires : goal.div-requires
 div-requires c =
-    let r = range c.requires in
-    ((stands_operand (lit≤ tt) (inhaled c.requires c.mul.ensures.0 c.product3-inhaled.ensures.0)).range, r PEF)
+    let r = range c.args.self.ready in
+    ((stands_operand (lit≤ tt) (inhaled c.args.self.ready c.mul.ensures.0 c.product3-inhaled.ensures.0)).range, r PEF)
 
 pub product3-requires-4 : goal.product3-requires-4
 product3-requires-4 c =
-    let r = middle c.requires in
-    (stands_middle (lit≤ tt) (outdoors4 c.requires c.product3.ensures.0 c.mul-outdoors.ensures.0), (r EF, r ED))
+    let r = middle c.args.self.ready in
+    (stands_middle (lit≤ tt) (outdoors4 c.args.self.ready c.product3.ensures.0 c.mul-outdoors.ensures.0), (r EF, r ED))
 
 pub returns : goal.returns
 unfolding number_values derived pathways_of table
 returns c =
-    let ready = c.requires in
+    let ready = c.args.self.ready in
     let breathed = inhaled ready c.mul.ensures.0 c.product3-inhaled.ensures.0 in
     record {
       first = side_term ready 1 2 Risk 0 (lit≤ tt) (oral ready c.product3-2.ensures.0 c.product3-3.ensures.0);
-      second = side_term ready 1 2 Risk 1 (lit≤ tt) (stands_div c.args.dir breathed (input ready PEF) (lit≤ tt) c.div.ensures.0);
+      second = side_term ready 1 2 Risk 1 (lit≤ tt) (stands_div c.args.self.dir breathed (input ready PEF) (lit≤ tt) c.div.ensures.0);
       third = side_term ready 1 2 Risk 2 (lit≤ tt) (outdoors ready c.product3.ensures.0 c.mul-outdoors.ensures.0 c.product3-4.ensures.0);
     }

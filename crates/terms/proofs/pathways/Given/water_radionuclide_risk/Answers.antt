@@ -1,4 +1,4 @@
--- `terms::pathways::water_radionuclide_risk`: each term is that of its formula in the table.
+-- `terms::pathways::Given::water_radionuclide_risk`: each term is that of its formula in the table.
 use Rattle.std.proofs.Common.{◌≡◌, [], ◌∷◌}
 use lib.Dec.{lit≤}
 use Rattle.rounding.specs.declared.Direction.{Direction}
@@ -13,7 +13,7 @@ use Rattle.factors.specs.Stands.{Stands}
 use Rattle.terms.specs.Side.{number_values, Ready}
 use Rattle.factors.proofs.StandsLaws.{zero_stands, stands_middle, stands_mul, stands_mul3}
 use Rattle.terms.proofs.NumberValues.{named, input, middle, range, side_term}
-use Rattle.terms.proofs.pathways.water_radionuclide_risk.Goals as goal
+use Rattle.terms.proofs.pathways.Given.water_radionuclide_risk.Goals as goal
 
 -- ---- what the code multiplies
 module _ {dir : Direction} {p : Prepared} {t : ContaminantNumbers} (ready : Ready dir p t) where
@@ -26,15 +26,15 @@ module _ {dir : Direction} {p : Prepared} {t : ContaminantNumbers} (ready : Read
 
 -- ---- what it may multiply and divide
 pub mul-requires : goal.mul-requires
-mul-requires c = let r = range c.requires in (r SFo, r IR)
+mul-requires c = let r = range c.args.self.ready in (r SFo, r IR)
 
 pub product3-requires : goal.product3-requires
-product3-requires c = let r = middle c.requires in (stands_middle (lit≤ tt) (oral2 c.requires c.mul.ensures.0), (r EF, r ED))
+product3-requires c = let r = middle c.args.self.ready in (stands_middle (lit≤ tt) (oral2 c.args.self.ready c.mul.ensures.0), (r EF, r ED))
 
 pub returns : goal.returns
 unfolding number_values derived pathways_of table
 returns c =
-    let ready = c.requires in
+    let ready = c.args.self.ready in
     record {
       first = side_term ready 2 2 Risk 0 (lit≤ tt) (oral ready c.mul.ensures.0 c.product3.ensures.0);
       second = side_term ready 2 2 Risk 1 (lit≤ tt) zero_stands;

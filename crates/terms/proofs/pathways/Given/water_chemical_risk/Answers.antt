@@ -1,4 +1,4 @@
--- `terms::pathways::water_chemical_risk`: each term is that of its formula in the table.
+-- `terms::pathways::Given::water_chemical_risk`: each term is that of its formula in the table.
 use Rattle.std.proofs.Common.{◌≡◌, [], ◌∷◌}
 use lib.Dec.{lit≤}
 use Rattle.rounding.specs.declared.Direction.{Direction}
@@ -14,7 +14,7 @@ use Rattle.terms.specs.Side.{number_values, Ready}
 use Rattle.factors.proofs.StandsLaws.{stands_div, stands_middle, stands_mul, stands_mul3, stands_operand}
 use Rattle.factors.proofs.Constants.{num}
 use Rattle.terms.proofs.NumberValues.{named, input, middle, range, side_term}
-use Rattle.terms.proofs.pathways.water_chemical_risk.Goals as goal
+use Rattle.terms.proofs.pathways.Given.water_chemical_risk.Goals as goal
 
 -- ---- what the code multiplies
 module _ {dir : Direction} {p : Prepared} {t : ContaminantNumbers} (ready : Ready dir p t) where
@@ -46,48 +46,48 @@ module _ {dir : Direction} {p : Prepared} {t : ContaminantNumbers} (ready : Read
 
 -- ---- what it may multiply and divide
 pub mul-requires : goal.mul-requires
-mul-requires c = let r = range c.requires in (r SFo, r IR)
+mul-requires c = let r = range c.args.self.ready in (r SFo, r IR)
 
 pub product3-swallowed-requires : goal.product3-swallowed-requires
-product3-swallowed-requires c = let r = middle c.requires in (stands_middle (lit≤ tt) (oral2 c.requires c.mul.ensures.0), (r EF, r ED))
+product3-swallowed-requires c = let r = middle c.args.self.ready in (stands_middle (lit≤ tt) (oral2 c.args.self.ready c.mul.ensures.0), (r EF, r ED))
 
 pub product3-requires : goal.product3-requires
-product3-requires c = let r = middle c.requires in (r SFi, (r IRA, r Half))
+product3-requires c = let r = middle c.args.self.ready in (r SFi, (r IRA, r Half))
 
 pub product3-inhaled-requires : goal.product3-inhaled-requires
-product3-inhaled-requires c = let r = middle c.requires in (stands_middle (lit≤ tt) (inhaled3 c.requires c.product3.ensures.0), (r EF, r ED))
+product3-inhaled-requires c = let r = middle c.args.self.ready in (stands_middle (lit≤ tt) (inhaled3 c.args.self.ready c.product3.ensures.0), (r EF, r ED))
 
 pub product3-requires-2 : goal.product3-requires-2
-product3-requires-2 c = let r = middle c.requires in (r SFo, (r SA, r PC))
+product3-requires-2 c = let r = middle c.args.self.ready in (r SFo, (r SA, r PC))
 
 pub product3-wet-requires : goal.product3-wet-requires
-product3-wet-requires c = let r = middle c.requires in (stands_middle (lit≤ tt) (skin3 c.requires c.product3-2.ensures.0), (r ET, r Thousandth))
+product3-wet-requires c = let r = middle c.args.self.ready in (stands_middle (lit≤ tt) (skin3 c.args.self.ready c.product3-2.ensures.0), (r ET, r Thousandth))
 
 pub product3-absorbed-requires : goal.product3-absorbed-requires
 product3-absorbed-requires c =
-    let r = middle c.requires in
-    (stands_middle (lit≤ tt) (skin5 c.requires c.product3-2.ensures.0 c.product3-wet.ensures.0), (r EF, r ED))
+    let r = middle c.args.self.ready in
+    (stands_middle (lit≤ tt) (skin5 c.args.self.ready c.product3-2.ensures.0 c.product3-wet.ensures.0), (r EF, r ED))
 
 pub div-requires : goal.div-requires
 div-requires c =
-    let dividend = oral c.requires c.mul.ensures.0 c.product3-swallowed.ensures.0 in
-    ((stands_operand (lit≤ tt) dividend).range, (stands_operand (lit≤ tt) c.requires.prepared.lifetime).range)
+    let dividend = oral c.args.self.ready c.mul.ensures.0 c.product3-swallowed.ensures.0 in
+    ((stands_operand (lit≤ tt) dividend).range, (stands_operand (lit≤ tt) c.args.self.ready.prepared.lifetime).range)
 
 pub div-requires-2 : goal.div-requires-2
 div-requires-2 c =
-    let dividend = inhaled c.requires c.product3.ensures.0 c.product3-inhaled.ensures.0 in
-    ((stands_operand (lit≤ tt) dividend).range, (stands_operand (lit≤ tt) c.requires.prepared.lifetime).range)
+    let dividend = inhaled c.args.self.ready c.product3.ensures.0 c.product3-inhaled.ensures.0 in
+    ((stands_operand (lit≤ tt) dividend).range, (stands_operand (lit≤ tt) c.args.self.ready.prepared.lifetime).range)
 
 pub div-requires-3 : goal.div-requires-3
 div-requires-3 c =
-    let dividend = skin c.requires c.product3-2.ensures.0 c.product3-wet.ensures.0 c.product3-absorbed.ensures.0 in
-    ((stands_operand (lit≤ tt) dividend).range, (stands_operand (lit≤ tt) c.requires.prepared.lifetime).range)
+    let dividend = skin c.args.self.ready c.product3-2.ensures.0 c.product3-wet.ensures.0 c.product3-absorbed.ensures.0 in
+    ((stands_operand (lit≤ tt) dividend).range, (stands_operand (lit≤ tt) c.args.self.ready.prepared.lifetime).range)
 
 pub returns : goal.returns
 unfolding number_values derived pathways_of table
 returns c =
-    let ready = c.requires in
-    let dir = c.args.dir in
+    let ready = c.args.self.ready in
+    let dir = c.args.self.dir in
     let swallowed = oral ready c.mul.ensures.0 c.product3-swallowed.ensures.0 in
     let breathed = inhaled ready c.product3.ensures.0 c.product3-inhaled.ensures.0 in
     let absorbed = skin ready c.product3-2.ensures.0 c.product3-wet.ensures.0 c.product3-absorbed.ensures.0 in

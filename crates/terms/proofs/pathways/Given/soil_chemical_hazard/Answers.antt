@@ -1,4 +1,4 @@
--- `terms::pathways::soil_chemical_hazard`: each term is that of its formula in the table.
+-- `terms::pathways::Given::soil_chemical_hazard`: each term is that of its formula in the table.
 use Rattle.std.proofs.Common.{◌≡◌, [], ◌∷◌}
 use lib.Dec.{lit≤}
 use Rattle.rounding.specs.declared.Direction.{Direction}
@@ -15,7 +15,7 @@ use Rattle.terms.specs.Side.{number_values, Ready, Air}
 use Rattle.factors.proofs.StandsLaws.{zero_stands, stands_div, stands_middle, stands_mul3, stands_operand}
 use Rattle.factors.proofs.Constants.{num}
 use Rattle.terms.proofs.NumberValues.{named, named_below, input, middle, side_term, stands_turned}
-use Rattle.terms.proofs.pathways.soil_chemical_hazard.Goals as goal
+use Rattle.terms.proofs.pathways.Given.soil_chemical_hazard.Goals as goal
 
 -- ---- what the code multiplies
 module _ {dir : Direction} {p : Prepared} {t : ContaminantNumbers} (ready : Ready dir p t) where
@@ -32,33 +32,33 @@ module _ {dir : Direction} {p : Prepared} {t : ContaminantNumbers} (ready : Read
 
 -- ---- what it may multiply and divide
 pub product3-oral-requires : goal.product3-oral-requires
-product3-oral-requires c = let r = middle c.requires.0 in (r RfDo, (r BW, r Days))
+product3-oral-requires c = let r = middle c.args.self.ready in (r RfDo, (r BW, r Days))
 
 pub product3-inhaled-requires : goal.product3-inhaled-requires
-product3-inhaled-requires c = let r = middle c.requires.0 in (r RfDi, (r BW, r Days))
+product3-inhaled-requires c = let r = middle c.args.self.ready in (r RfDi, (r BW, r Days))
 
 pub div-requires : goal.div-requires
 div-requires c =
-    let divisor = oral c.requires.0 c.opposite-back.ensures c.product3-oral.ensures.0 in
-    ((stands_operand (lit≤ tt) c.requires.0.prepared.soil_intake).range, (stands_operand (lit≤ tt) divisor).range)
+    let divisor = oral c.args.self.ready c.opposite-back.ensures c.product3-oral.ensures.0 in
+    ((stands_operand (lit≤ tt) c.args.self.ready.prepared.soil_intake).range, (stands_operand (lit≤ tt) divisor).range)
 
 pub product3-requires : goal.product3-requires
-product3-requires c = let r = middle c.requires.0 in (r IRA, (stands_middle (lit≤ tt) c.requires.1.stands, r EF))
+product3-requires c = let r = middle c.args.self.ready in (r IRA, (stands_middle (lit≤ tt) c.requires.stands, r EF))
 
 pub div-requires-2 : goal.div-requires-2
 div-requires-2 c =
-    let dividend = intake c.requires.0 c.requires.1 c.product3.ensures.0 in
-    let divisor = inhaled c.requires.0 c.opposite-back.ensures c.product3-inhaled.ensures.0 in
+    let dividend = intake c.args.self.ready c.requires c.product3.ensures.0 in
+    let divisor = inhaled c.args.self.ready c.opposite-back.ensures c.product3-inhaled.ensures.0 in
     ((stands_operand (lit≤ tt) dividend).range, (stands_operand (lit≤ tt) divisor).range)
 
 pub returns : goal.returns
 unfolding number_values derived pathways_of table
 returns c =
-    let ready = c.requires.0 in
-    let dir = c.args.dir in
+    let ready = c.args.self.ready in
+    let dir = c.args.self.dir in
     let swallowed = oral ready c.opposite-back.ensures c.product3-oral.ensures.0 in
     let breathed = inhaled ready c.opposite-back.ensures c.product3-inhaled.ensures.0 in
-    let taken = intake ready c.requires.1 c.product3.ensures.0 in
+    let taken = intake ready c.requires c.product3.ensures.0 in
     record {
       first = side_term ready 1 1 Hazard 0 (lit≤ tt) (stands_div dir ready.prepared.soil_intake swallowed (lit≤ tt) c.div.ensures.0);
       second = side_term ready 1 1 Hazard 1 (lit≤ tt) (stands_div dir taken breathed (lit≤ tt) c.div-2.ensures.0);

@@ -1,4 +1,4 @@
--- `terms::pathways::air`: what the code adds up is B.
+-- `terms::pathways::Given::air`: what the code adds up is B.
 use Rattle.std.proofs.Common.{◌+◌, sym, ap, subst, ◌∙◌}
 use lib.Dec.{lit≤}
 use Rattle.rounding.specs.declared.Number.{Number}
@@ -10,20 +10,20 @@ use Rattle.factors.specs.Stands.{Stands}
 use Rattle.terms.specs.Side.{number_values}
 use Rattle.factors.proofs.StandsLaws.{stands_div, stands_operand}
 use Rattle.terms.proofs.NumberValues.{input, range, air_number, air_stands}
-use Rattle.terms.proofs.pathways.air.Goals as goal
+use Rattle.terms.proofs.pathways.Given.air.Goals as goal
 
 pub div-requires : goal.div-requires
-div-requires c = let r = range c.requires in (r One, r VF)
+div-requires c = let r = range c.args.self.ready in (r One, r VF)
 
 pub add-requires : goal.add-requires
 add-requires c =
-    let r = input c.requires in
-    let quotient = stands_div c.args.dir (r One) (r VF) (lit≤ tt) c.div.ensures.0 in
-    ((stands_operand (lit≤ tt) quotient).range, (stands_operand (lit≤ tt) c.requires.prepared.inverse_pef).range)
+    let r = input c.args.self.ready in
+    let quotient = stands_div c.args.self.dir (r One) (r VF) (lit≤ tt) c.div.ensures.0 in
+    ((stands_operand (lit≤ tt) quotient).range, (stands_operand (lit≤ tt) c.args.self.ready.prepared.inverse_pef).range)
 
 pub returns : goal.returns
 unfolding air_number
 returns c =
-    let a = c.args in
+    let a = c.args.self in
     let e = c.add.ensures.0 ∙ ap (λ (q : Number). sum_of a.dir q a.p.inverse_pef) c.div.ensures.0 in
-    record { stands = subst (λ (b : Number). Stands (two_width + 1) b (look (number_values a.dir a.p.factors a.t) B)) (sym e) (air_stands c.requires) }
+    record { stands = subst (λ (b : Number). Stands (two_width + 1) b (look (number_values a.dir a.p.factors a.t) B)) (sym e) (air_stands c.args.self.ready) }

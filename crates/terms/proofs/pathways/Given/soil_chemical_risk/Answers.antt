@@ -1,4 +1,4 @@
--- `terms::pathways::soil_chemical_risk`: each term is that of its formula in the table.
+-- `terms::pathways::Given::soil_chemical_risk`: each term is that of its formula in the table.
 use Rattle.std.proofs.Common.{◌≡◌, [], ◌∷◌}
 use lib.Dec.{lit≤}
 use Rattle.rounding.specs.declared.Direction.{Direction}
@@ -14,7 +14,7 @@ use Rattle.terms.specs.Side.{number_values, Ready, Air}
 use Rattle.factors.proofs.StandsLaws.{zero_stands, stands_div, stands_middle, stands_mul3, stands_operand}
 use Rattle.factors.proofs.Constants.{num}
 use Rattle.terms.proofs.NumberValues.{named, input, middle, side_term}
-use Rattle.terms.proofs.pathways.soil_chemical_risk.Goals as goal
+use Rattle.terms.proofs.pathways.Given.soil_chemical_risk.Goals as goal
 
 -- ---- what the code multiplies
 module _ {dir : Direction} {p : Prepared} {t : ContaminantNumbers} (ready : Ready dir p t) where
@@ -34,40 +34,40 @@ module _ {dir : Direction} {p : Prepared} {t : ContaminantNumbers} (ready : Read
 
 -- ---- what it may multiply and divide
 pub product3-requires : goal.product3-requires
-product3-requires c = let r = middle c.requires.0 in (r SFo, (r IR, r Millionth))
+product3-requires c = let r = middle c.args.self.ready in (r SFo, (r IR, r Millionth))
 
 pub product3-swallowed-requires : goal.product3-swallowed-requires
 product3-swallowed-requires c =
-    let r = middle c.requires.0 in
-    (stands_middle (lit≤ tt) (oral3 c.requires.0 c.product3.ensures.0), (r EF, r ED))
+    let r = middle c.args.self.ready in
+    (stands_middle (lit≤ tt) (oral3 c.args.self.ready c.product3.ensures.0), (r EF, r ED))
 
 pub product3-requires-2 : goal.product3-requires-2
 product3-requires-2 c =
-    let r = middle c.requires.0 in
-    (r SFi, (r IRA, stands_middle (lit≤ tt) c.requires.1.stands))
+    let r = middle c.args.self.ready in
+    (r SFi, (r IRA, stands_middle (lit≤ tt) c.requires.stands))
 
 pub product3-inhaled-requires : goal.product3-inhaled-requires
 product3-inhaled-requires c =
-    let r = middle c.requires.0 in
-    (stands_middle (lit≤ tt) (inhaled3 c.requires.0 c.requires.1 c.product3-2.ensures.0), (r EF, r ED))
+    let r = middle c.args.self.ready in
+    (stands_middle (lit≤ tt) (inhaled3 c.args.self.ready c.requires c.product3-2.ensures.0), (r EF, r ED))
 
 pub div-requires : goal.div-requires
 div-requires c =
-    let dividend = oral c.requires.0 c.product3.ensures.0 c.product3-swallowed.ensures.0 in
-    ((stands_operand (lit≤ tt) dividend).range, (stands_operand (lit≤ tt) c.requires.0.prepared.lifetime).range)
+    let dividend = oral c.args.self.ready c.product3.ensures.0 c.product3-swallowed.ensures.0 in
+    ((stands_operand (lit≤ tt) dividend).range, (stands_operand (lit≤ tt) c.args.self.ready.prepared.lifetime).range)
 
 pub div-requires-2 : goal.div-requires-2
 div-requires-2 c =
-    let dividend = inhaled c.requires.0 c.requires.1 c.product3-2.ensures.0 c.product3-inhaled.ensures.0 in
-    ((stands_operand (lit≤ tt) dividend).range, (stands_operand (lit≤ tt) c.requires.0.prepared.lifetime).range)
+    let dividend = inhaled c.args.self.ready c.requires c.product3-2.ensures.0 c.product3-inhaled.ensures.0 in
+    ((stands_operand (lit≤ tt) dividend).range, (stands_operand (lit≤ tt) c.args.self.ready.prepared.lifetime).range)
 
 pub returns : goal.returns
 unfolding number_values derived pathways_of table
 returns c =
-    let ready = c.requires.0 in
-    let dir = c.args.dir in
+    let ready = c.args.self.ready in
+    let dir = c.args.self.dir in
     let swallowed = oral ready c.product3.ensures.0 c.product3-swallowed.ensures.0 in
-    let breathed = inhaled ready c.requires.1 c.product3-2.ensures.0 c.product3-inhaled.ensures.0 in
+    let breathed = inhaled ready c.requires c.product3-2.ensures.0 c.product3-inhaled.ensures.0 in
     record {
       first = side_term ready 1 1 Risk 0 (lit≤ tt) (stands_div dir swallowed ready.prepared.lifetime (lit≤ tt) c.div.ensures.0);
       second = side_term ready 1 1 Risk 1 (lit≤ tt) (stands_div dir breathed ready.prepared.lifetime (lit≤ tt) c.div-2.ensures.0);

@@ -1,4 +1,4 @@
--- `terms::pathways::water_chemical_hazard`: each term is that of its formula in the table.
+-- `terms::pathways::Given::water_chemical_hazard`: each term is that of its formula in the table.
 use Rattle.std.proofs.Common.{◌≡◌, [], ◌∷◌}
 use lib.Dec.{lit≤}
 use Rattle.rounding.specs.declared.Direction.{Direction}
@@ -15,7 +15,7 @@ use Rattle.terms.specs.Side.{number_values, Ready}
 use Rattle.factors.proofs.StandsLaws.{stands_div, stands_middle, stands_mul3, stands_operand}
 use Rattle.factors.proofs.Constants.{num}
 use Rattle.terms.proofs.NumberValues.{named, named_below, input, middle, side_term, stands_turned}
-use Rattle.terms.proofs.pathways.water_chemical_hazard.Goals as goal
+use Rattle.terms.proofs.pathways.Given.water_chemical_hazard.Goals as goal
 
 -- ---- what the code multiplies
 module _ {dir : Direction} {p : Prepared} {t : ContaminantNumbers} (ready : Ready dir p t) where
@@ -36,38 +36,38 @@ module _ {dir : Direction} {p : Prepared} {t : ContaminantNumbers} (ready : Read
 
 -- ---- what it may multiply and divide
 pub product3-oral-requires : goal.product3-oral-requires
-product3-oral-requires c = let r = middle c.requires in (r RfDo, (r BW, r Days))
+product3-oral-requires c = let r = middle c.args.self.ready in (r RfDo, (r BW, r Days))
 
 pub product3-inhaled-requires : goal.product3-inhaled-requires
-product3-inhaled-requires c = let r = middle c.requires in (r RfDi, (r BW, r Days))
+product3-inhaled-requires c = let r = middle c.args.self.ready in (r RfDi, (r BW, r Days))
 
 pub product3-requires : goal.product3-requires
-product3-requires c = let r = middle c.requires in (r SA, (r PC, r ET))
+product3-requires c = let r = middle c.args.self.ready in (r SA, (r PC, r ET))
 
 pub product3-absorbed-requires : goal.product3-absorbed-requires
-product3-absorbed-requires c = let r = middle c.requires in (stands_middle (lit≤ tt) (skin3 c.requires c.product3.ensures.0), (r Thousandth, r EF))
+product3-absorbed-requires c = let r = middle c.args.self.ready in (stands_middle (lit≤ tt) (skin3 c.args.self.ready c.product3.ensures.0), (r Thousandth, r EF))
 
 pub div-requires : goal.div-requires
 div-requires c =
-    let divisor = oral c.requires c.opposite-back.ensures c.product3-oral.ensures.0 in
-    ((stands_operand (lit≤ tt) c.requires.prepared.water_intake).range, (stands_operand (lit≤ tt) divisor).range)
+    let divisor = oral c.args.self.ready c.opposite-back.ensures c.product3-oral.ensures.0 in
+    ((stands_operand (lit≤ tt) c.args.self.ready.prepared.water_intake).range, (stands_operand (lit≤ tt) divisor).range)
 
 pub div-requires-2 : goal.div-requires-2
 div-requires-2 c =
-    let divisor = inhaled c.requires c.opposite-back.ensures c.product3-inhaled.ensures.0 in
-    ((stands_operand (lit≤ tt) c.requires.prepared.vapour_intake).range, (stands_operand (lit≤ tt) divisor).range)
+    let divisor = inhaled c.args.self.ready c.opposite-back.ensures c.product3-inhaled.ensures.0 in
+    ((stands_operand (lit≤ tt) c.args.self.ready.prepared.vapour_intake).range, (stands_operand (lit≤ tt) divisor).range)
 
 pub div-requires-3 : goal.div-requires-3
 div-requires-3 c =
-    let dividend = skin c.requires c.product3.ensures.0 c.product3-absorbed.ensures.0 in
-    let divisor = oral c.requires c.opposite-back.ensures c.product3-oral.ensures.0 in
+    let dividend = skin c.args.self.ready c.product3.ensures.0 c.product3-absorbed.ensures.0 in
+    let divisor = oral c.args.self.ready c.opposite-back.ensures c.product3-oral.ensures.0 in
     ((stands_operand (lit≤ tt) dividend).range, (stands_operand (lit≤ tt) divisor).range)
 
 pub returns : goal.returns
 unfolding number_values derived pathways_of table
 returns c =
-    let ready = c.requires in
-    let dir = c.args.dir in
+    let ready = c.args.self.ready in
+    let dir = c.args.self.dir in
     let swallowed = oral ready c.opposite-back.ensures c.product3-oral.ensures.0 in
     let breathed = inhaled ready c.opposite-back.ensures c.product3-inhaled.ensures.0 in
     let absorbed = skin ready c.product3.ensures.0 c.product3-absorbed.ensures.0 in

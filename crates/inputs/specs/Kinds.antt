@@ -1,0 +1,14 @@
+-- The numbers of the media and of the classes.
+use Rattle.std.specs.Prelude.{ℕ}
+use Rattle.inputs.specs.declared.Medium.{Medium}
+use Rattle.inputs.specs.declared.Medium.TheVariants.{Soil, Water}
+use Rattle.inputs.specs.declared.Class.{Class}
+use Rattle.inputs.specs.declared.Class.TheVariants.{Chemical, Radionuclide}
+
+abbrev pub medium_number : Medium → ℕ
+medium_number Soil = 1
+medium_number Water = 2
+
+abbrev pub class_number : Class → ℕ
+class_number Chemical = 1
+class_number Radionuclide = 2

@@ -1,0 +1,20 @@
+-- What a plan keeps of its scenario and its medium: they keep their rules, and the numbers in both directions are worked out of them.
+use Rattle.std.specs.Prelude.{◌≡◌, true, ℕ}
+use Rattle.std.specs.Coded.{Coded-set, coded_ℕ, coded_bool}
+use Rattle.rounding.specs.declared.Direction.TheVariants.{Down, Up}
+use Rattle.inputs.specs.declared.Scenario.{Scenario}
+use Rattle.inputs.specs.Rules.{scenario_fits}
+use Rattle.factors.specs.declared.prepared.Prepared.{Prepared}
+use Rattle.factors.specs.Stands.{FactorsFor}
+use Rattle.factors.specs.Prepared.{PreparedFor}
+use Rattle.factors.specs.OneProof.{one_stands, one_stand_all}
+
+pub record PlanFor (s : Scenario) (medium : ℕ) (above below : Prepared) : Type 0 where
+  pub fits : scenario_fits s medium ≡ true
+  pub factors : FactorsFor s above.factors
+  pub up : PreparedFor Up above.factors above
+  pub down : PreparedFor Down above.factors below
+
+-- it has one proof at most, so that a struct may keep it in a ghost field
+pub one_plan : (s : Scenario) (medium : ℕ) (above below : Prepared) → IsProp (PlanFor s medium above below)
+one_plan s medium above below = Prim.hlevel (one_stands, one_stand_all, Coded-set coded_ℕ, Coded-set coded_bool)
