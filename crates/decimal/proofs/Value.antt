@@ -42,7 +42,7 @@ skip_next dir {v} {w} {a} {d} (known s) (absent f) = rw (f, add_zero_right dir s
 skip_next dir {v} {w} {a} {d} f (known s) = rw (ne_eqb d.m 0 (omega (arith, s.nine.least)))
 
 -- ---- the exponent of what a number stands for
-raised_inside : (e : ℤ) → 0 < raised e → in_range e ≡ true
+pub raised_inside : (e : ℤ) → 0 < raised e → in_range e ≡ true
 raised_inside e = cases (in_range e)
   where
     cases : (b : Bool) → 0 < cond b (raise e) 0 → b ≡ true

@@ -1,7 +1,7 @@
 -- Exponents as 16 bits in two's complement: all that is known of ℤ in the crate. Assumes nothing.
 use mathlib.Core.Path.{◌≡◌, refl, ap, ◌∙◌}
 use mathlib.Core.List.{[], ◌∷◌}
-use mathlib.Core.Bool.{Bool, true, false, cond}
+use mathlib.Core.Bool.{true, cond}
 use Prim.Native.Nat.{ℕ, suc, ◌-◌, ◌≤◌, ◌<◌, ◌%◌, ◌/◌}
 use native.Mathlib.Omega.{arith}
 use lib.IntN.{ℤ, pos, negsuc}
@@ -10,7 +10,7 @@ use mir.Val.{to_z, of_z, SFits}
 use lib.Dec.{ltb}
 use borrow.Author.Tests.{ltb-true, leb-true, lt-ltb, le-ltb}
 use Rattle.words.specs.Bytes.{le4}
-use Rattle.decimal.specs.Exponent.{raise, raised, in_range}
+use Rattle.decimal.specs.Exponent.{in_range}
 use Rattle.fields.specs.Fields.{signed_of, code_of}
 
 -- ---- from 16 bits
@@ -59,10 +59,3 @@ code_back (negsuc n) h =
     let l : n < 999 = ltb-true n 999 h in
     let c : 65535 - (65535 - n % 65536) ≡ n = omega arith in
     signed_neg (65535 - n % 65536) (omega arith) ∙ ap negsuc c
-
-pub raised_in_range : (e : ℤ) → 0 < raised e → in_range e ≡ true
-raised_in_range e = cases (in_range e)
-  where
-    cases : (b : Bool) → 0 < cond b (raise e) 0 → b ≡ true
-    cases true p = refl
-    cases false p = absurd (omega (arith, p))

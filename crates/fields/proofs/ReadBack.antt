@@ -17,7 +17,8 @@ use Rattle.decimal.specs.Decimal.{zero_of}
 use Rattle.inputs.specs.Valid.{valid_of, all_valid}
 use Rattle.inputs.proofs.Tests.{valid_small, valid_at}
 use Rattle.fields.specs.Fields.{half_at, signed_of, code_of, decimal_at, decimals_at, unused_zero, field, field_bytes, InField}
-use Rattle.fields.proofs.Exponents.{code_back, raised_in_range}
+use Rattle.decimal.proofs.Value.{raised_inside}
+use Rattle.fields.proofs.Exponents.{code_back}
 
 -- ---- lengths
 pub field_length : (d : Decimal) → length (field d) ≡ 8
@@ -57,7 +58,7 @@ placed_more d l l' at n ds k e h g =
 
 -- ---- a valid decimal fits a field
 pub valid_fits : (d : Decimal) → valid_of d ≡ true → InField d
-valid_fits d v = let s = valid_small d v in record { word = omega (arith, s.digits); exponent = raised_in_range d.e (omega (arith, s.low)) }
+valid_fits d v = let s = valid_small d v in record { word = omega (arith, s.digits); exponent = raised_inside d.e (omega (arith, s.low)) }
 
 pub all_fit : (ds : List Decimal) → all_valid ds ≡ true → (n : ℕ) → InField (get_or ds n zero_of)
 all_fit ds v n = valid_fits (get_or ds n zero_of) (valid_at ds v n)
