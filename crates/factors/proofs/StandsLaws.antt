@@ -6,8 +6,10 @@ use mathlib.Core.Logic.{inl, inr}
 use Prim.Native.Nat.{ℕ, zero, suc, ◌+◌, ◌-◌, ◌≤◌, ◌<◌}
 use native.Mathlib.Omega.{arith}
 use lib.Dec.{lit<, lit≤}
-use Rattle.std.proofs.lemmas.List.{take_more, take_more_set, map-append}
-use lib.ListN.{get_or, set, take, length}
+use lib.ListN.{get_or, length}
+use Rattle.std.specs.Array.{list_steps}
+use Rattle.std.specs.Iterator.{Yields}
+use Rattle.std.specs.declared.option.Option.TheVariants.{Some}
 use Rattle.rounding.specs.Sizes.{bias}
 use Rattle.rounding.specs.declared.Direction.{Direction}
 use Rattle.rounding.specs.declared.Number.{Number}
@@ -25,8 +27,8 @@ use Rattle.decimal.proofs.Laws.{decimal_zero, working_is, nine_working}
 use Rattle.decimal.proofs.CoreOperations.{mul_core, div_core, add_core}
 use Rattle.decimal.proofs.Approximation.{Sized, sized_of}
 use Rattle.inputs.specs.declared.Scenario.{Scenario}
-use Rattle.inputs.specs.Valid.{valid_of}
-use Rattle.inputs.proofs.Tests.{valid_small}
+use Rattle.inputs.specs.Valid.{valid_of, all_valid}
+use Rattle.inputs.proofs.Tests.{and_split, valid_small}
 use Rattle.factors.specs.declared.numbers.Factors.{Factors}
 use Rattle.factors.specs.Stands.{Stands, StandAll, FactorsFor, Inputs}
 use Rattle.factors.specs.Stands.StandAll.{end, next}
@@ -144,11 +146,19 @@ pub stands_join : {ns ms : List Number} {ds es : List Decimal} → StandAll ns d
 stands_join end t = t
 stands_join (next s ss) t = next s (stands_join ss t)
 
--- one more number, set behind the first i
-pub stands_more : (ns : List Number) (ds : List Decimal) (i : ℕ) (r : Number) → i < length ns → i < length ds → StandAll (take i ns) (map working_of (take i ds))
-    → Stands input_width r (working_of (get_or ds i zero_of)) → StandAll (take (i + 1) (set ns i r)) (map working_of (take (i + 1) ds))
-stands_more ns ds i r h k s t =
-    rw (take_more_set ns i r h, take_more ds i zero_of k, map-append working_of (take i ds) (get_or ds i zero_of ∷ [])) (stands_join s (next t end))
+-- numbers that stand, place by place, for the working decimals
+pub stands_places : (ns : List Number) (ds : List Decimal) (n : ℕ) → length ns ≡ n → length ds ≡ n
+    → ((i : ℕ) → i < n → Stands input_width (get_or ns i no_number) (working_of (get_or ds i zero_of))) → StandAll ns (map working_of ds)
+stands_places [] [] n a b h = end
+stands_places [] (d ∷ ds) n a b h = absurd (omega (arith, a, b))
+stands_places (r ∷ ns) [] n a b h = absurd (omega (arith, a, b))
+stands_places (r ∷ ns) (d ∷ ds) zero a b h = absurd (omega (arith, a))
+stands_places (r ∷ ns) (d ∷ ds) (suc n) a b h = next (h 0 (omega arith)) (stands_places ns ds n (omega (arith, a)) (omega (arith, b)) (λ i k. h (suc i) (omega (arith, k))))
+
+-- each of several valid decimals is valid at its turn
+pub valid_turn : (ds xs t u : List Decimal) (d : Decimal) → all_valid ds ≡ true → Yields list_steps ds xs t → list_steps t (Some d) u → valid_of d ≡ true
+valid_turn ds [] t u d v y e = (and_split (valid_of d) (all_valid u) (ap all_valid (sym (y ∙ e)) ∙ v)).0
+valid_turn ds (x ∷ xs) t u d v y e = valid_turn y.0 xs t u d (and_split (valid_of x) (all_valid y.0) (ap all_valid (sym y.1) ∙ v)).1 y.2 e
 
 -- the numbers m of the decimals d, where both went through arrays
 pub stands_same : {ms ns : List Number} {es ds : List Decimal} → es ≡ ds → StandAll ns (map working_of es) → ms ≡ ns → StandAll ms (map working_of ds)

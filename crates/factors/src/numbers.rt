@@ -38,11 +38,7 @@ fn numbers_of<const N: usize>(ds: [Decimal; N]) -> [Number; N]
     requires { all_valid ds ≡ true }
     ensures { StandAll result (map working_of ds.entry) }
 {
-    let mut numbers = [Number::ZERO; N];
-    for i in 0..N {
-        numbers[i] = number_of(ds[i]);
-    }
-    numbers
+    ds.map(number_of)
 }
 
 pub fn scenario_numbers(s: Scenario) -> Factors
