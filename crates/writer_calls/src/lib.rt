@@ -21,30 +21,23 @@ fn print_written<W: Write>(output: &mut W, a: Result<(), Refused>, out: &[u8]) -
     print_next(output, weigh(out))
 }
 
-// Call 3, on a header block: its writer, into all of the output.
-fn run_header<R: Read, W: Write>(input: &mut R, output: &mut W, out: &mut [u8]) -> io::Result<()>
-    requires { length out.old ≤ 1024 }
-{
-    let h = read_header(input)?;
-    let a = writers::write_header(out, h);
-    print_written(output, a, out)
-}
-
-// Call 4, on a contaminant block: its writer, for the given place.
-fn run_contaminant<R: Read, W: Write>(
-    input: &mut R,
+// Lends a writer so many bytes, 0 to 1024: each 165, so that a byte that is written shows. For more nothing is read or printed.
+fn lend<W: Write, F: FnOnce(&mut [u8]) -> io::Result<Result<(), Refused>>>(
     output: &mut W,
-    place: u32,
-    out: &mut [u8],
+    room: usize,
+    write: F,
 ) -> io::Result<()>
-    requires { length out.old ≤ 1024 }
+    requires { F.IsAlwaysCallable write }
 {
-    let r = read_contaminant(input)?;
-    let a = writers::write_contaminant(out, place, r);
-    print_written(output, a, out)
+    if 1024 < room {
+        return Ok(());
+    }
+    let mut out = [165u8; 1024];
+    let a = write(&mut out[..room])?;
+    print_written(output, a, &out[..room])
 }
 
-// Lends a writer so many bytes, 0 to 1024: each 165, so that a byte that is written shows.
+// Call 3, on a header block: its writer, into all of the output. Call 4, on a contaminant block: its writer, for the given place.
 pub fn run_writer<R: Read, W: Write>(
     input: &mut R,
     output: &mut W,
@@ -52,13 +45,12 @@ pub fn run_writer<R: Read, W: Write>(
     room: usize,
     place: u32,
 ) -> io::Result<()> {
-    if 1024 < room {
-        return Ok(());
-    }
-    let mut out = [165u8; 1024];
-    if call == 3 {
-        run_header(input, output, &mut out[..room])
-    } else {
-        run_contaminant(input, output, place, &mut out[..room])
+    match call {
+        3 => lend(output, room, |out| {
+            Ok(writers::write_header(out, read_header(input)?))
+        }),
+        _ => lend(output, room, |out| {
+            Ok(writers::write_contaminant(out, place, read_contaminant(input)?))
+        }),
     }
 }
