@@ -64,10 +64,7 @@ impl Refusal {
 pub fn located<T: Copy>(tested: Result<T, Refusal>, block: u32) -> Result<T, Refused>
     ensures { result ≡ located tested block }
 {
-    match tested {
-        Ok(value) => Ok(value),
-        Err(refusal) => Err(refusal.in_block(block)),
-    }
+    tested.map_err(|refusal| refusal.in_block(block))
 }
 
 // The number that an answer sends back: 0 where it is accepted.
