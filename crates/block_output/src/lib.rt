@@ -8,9 +8,10 @@ ghost use Rattle.words.specs.Bytes.{placed, le4, over};
 ghost use Rattle.block_rules.specs.Layouts.{last_word, first_words, header_block, contaminant_block, result_block, summary_block};
 
 use block_rules::Header;
-use guideline_rules::SideGuidelines;
+use formulas::Sides;
+use guideline_rules::Guidelines;
 use inputs::Contaminant;
-use sum_rules::SideSums;
+use sum_rules::Sums;
 
 // Writes the last word, so that all 128 words add to zero. From the n-th on the words are zero, so that the first n give the sum.
 fn put_last_word(out: &mut [u8], n: usize)
@@ -18,7 +19,7 @@ fn put_last_word(out: &mut [u8], n: usize)
     ensures { out.new ≡ placed out.old 508 (le4 (last_word out.old)) }
 {
     let sum = words::sum(out, n);
-    words::put(out, 508, std::num::wrapping_sub_u32(0, sum));
+    words::put(out, 508, sum.wrapping_neg());
 }
 
 // Writes the kind, the place and the two words after them.
@@ -60,17 +61,11 @@ pub fn put_contaminant(out: &mut [u8], place: u32, r: Contaminant)
 }
 
 // Writes a block of kind 3: the guidelines of risk by pathway and in total, then those of hazard.
-pub fn put_result(
-    out: &mut [u8],
-    place: u32,
-    class: u32,
-    id: u32,
-    risk: SideGuidelines,
-    hazard: SideGuidelines,
-)
+pub fn put_result(out: &mut [u8], place: u32, class: u32, id: u32, g: Guidelines)
     requires { block_size ≤ length out.old }
-    ensures { out.new ≡ over (result_block place class id risk hazard) out.old }
+    ensures { out.new ≡ over (result_block place class id g.risk g.hazard) out.old }
 {
+    let Sides { risk, hazard } = g;
     put_first_words(out, 3, place, class, id);
     fields::put_all(out, 16, [risk.first, risk.second, risk.third, risk.total]);
     fields::put_all(
@@ -83,10 +78,11 @@ pub fn put_result(
 }
 
 // Writes a block of kind 4: the sums of risk, those of hazard, and the two verdicts.
-pub fn put_summary(out: &mut [u8], risk: SideSums, hazard: SideSums)
+pub fn put_summary(out: &mut [u8], a: Sums)
     requires { block_size ≤ length out.old }
-    ensures { out.new ≡ over (summary_block risk hazard) out.old }
+    ensures { out.new ≡ over (summary_block a.risk a.hazard) out.old }
 {
+    let Sides { risk, hazard } = a;
     let r = risk.verdict;
     let h = hazard.verdict;
     put_first_words(out, 4, 0, 0, 0);

@@ -8,7 +8,8 @@ ghost use Rattle.block_rules.specs.Layouts.{guideline_decimals};
 ghost use Rattle.gv_rules.specs.Exports.{word_of, packed, header_from, contaminant_from};
 
 use block_rules::{Header, STRUCT_SIZE};
-use guideline_rules::SideGuidelines;
+use formulas::Sides;
+use guideline_rules::Guidelines;
 use inputs::{Contaminant, Scenario};
 use outcome::Refused;
 use sum_rules::Sums;
@@ -45,10 +46,11 @@ pub fn contaminant_from(contaminant: &[u8]) -> Contaminant
 }
 
 // Writes the eight guidelines: risk, then hazard.
-pub fn put_guidelines(out: &mut [u8], r: SideGuidelines, h: SideGuidelines)
+pub fn put_guidelines(out: &mut [u8], g: Guidelines)
     requires { 64 ≤ length out.old }
-    ensures { out.new ≡ over (field_bytes (guideline_decimals r h)) out.old }
+    ensures { out.new ≡ over (field_bytes (guideline_decimals g.risk g.hazard)) out.old }
 {
+    let Sides { risk: r, hazard: h } = g;
     fields::put_all(out, 0, [r.first, r.second, r.third, r.total]);
     fields::put_all(out, 32, [h.first, h.second, h.third, h.total]);
 }

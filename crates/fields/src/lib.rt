@@ -45,7 +45,7 @@ pub fn read_all<const N: usize>(s: &[u8], at: usize) -> [Decimal; N]
     requires { at + 8 * N ≤ length s.now }
     ensures { result ≡ decimals_at s.now at N }
 {
-    let mut ds = [Decimal { m: 0, e: 0 }; N];
+    let mut ds = [Decimal::ZERO; N];
     for i in 0..N {
         ds[i] = read(s, at + 8 * i);
     }

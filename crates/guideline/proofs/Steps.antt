@@ -14,7 +14,7 @@ use Rattle.factors.specs.declared.numbers.Factors.{Factors}
 use Rattle.factors.specs.declared.numbers.ContaminantNumbers.{ContaminantNumbers}
 use Rattle.factors.specs.declared.prepared.Prepared.{Prepared}
 use Rattle.terms.specs.declared.pathways.PathwayTerms.{PathwayTerms}
-use Rattle.terms.specs.declared.pathways.Terms.{Terms}
+use Rattle.terms.specs.Side.{Terms}
 use Rattle.inputs.specs.Limits.{input_width}
 use Rattle.formulas.specs.Side.{Risk, Hazard}
 use Rattle.formulas.specs.Formula.{Formula, TR, THI, derived}

@@ -10,8 +10,9 @@ ghost use Rattle.guideline.specs.Column.{ColumnFor, ranged_of, column_ranged, Pr
 ghost use Rattle.guideline_rules.proofs.Accepted.{Accepted};
 ghost use Rattle.guideline_rules.specs.Guideline.{worked_out, guideline_of};
 
+use formulas::Sides;
 use guideline_rules::{Guidelines, SideGuidelines};
-use inputs::{Class, Contaminant, Medium, Scenario, contaminant_fits, scenario_refusal};
+use inputs::{Class, Contaminant, Medium, Scenario, Targets, contaminant_fits, scenario_refusal};
 use outcome::{Refusal, Refused, located};
 use presence::record_refusal;
 use rounding::{BIAS, Direction, Number};
@@ -33,11 +34,7 @@ pub struct Column {
 }
 
 // Those of both sides.
-#[derive(Clone, Copy)]
-pub struct Columns {
-    pub risk: Column,
-    pub hazard: Column,
-}
+pub type Columns = Sides<Column>;
 
 // The guideline of a term or of a sum of terms: the target divided by it, down.
 fn over(target: Number, term: Number) -> Number
@@ -49,10 +46,11 @@ fn over(target: Number, term: Number) -> Number
 
 // The eight guidelines, written out in one function that is called from one place: so the compiler keeps the
 // numbers in registers (docs/DECISIONS.md, speed).
-pub fn columns_of(tr: Number, thi: Number, t: Terms) -> Columns
-    requires { (Wide tr × WideSide t.risk) × (Wide thi × WideSide t.hazard) }
-    ensures { ColumnFor tr t.risk result.risk × ColumnFor thi t.hazard result.hazard }
+pub fn columns_of(targets: Targets<Number>, t: Terms) -> Columns
+    requires { (Wide targets.tr × WideSide t.risk) × (Wide targets.thi × WideSide t.hazard) }
+    ensures { ColumnFor targets.tr t.risk result.risk × ColumnFor targets.thi t.hazard result.hazard }
 {
+    let Targets { tr, thi } = targets;
     let a = t.risk;
     let b = t.hazard;
     let risk = terms::pathways::total(a, Direction::Up);
@@ -115,7 +113,7 @@ fn worked_out(s: Scenario, medium: u32, r: Contaminant) -> Result<Guidelines, Re
     let p = factors::prepared::prepare(f, Direction::Up);
     let t = factors::numbers::contaminant_numbers(r);
     let side = terms::pathways::terms_of(p, t, medium, class, Direction::Up);
-    let columns = columns_of(f.targets.tr, f.targets.thi, side);
+    let columns = columns_of(f.targets, side);
     let risk = columns.risk;
     let hazard = columns.hazard;
     if column_ranged(side.risk, risk) & column_ranged(side.hazard, hazard) {

@@ -37,11 +37,12 @@ use Rattle.decimal.proofs.Value.{Value, value_inside, fair_value}
 use Rattle.decimal.proofs.Value.Value.{absent, known}
 use Rattle.formulas.proofs.Sound.{table_sound, sound_at_lem, none_sound, three_pathways}
 use Rattle.formulas.proofs.TermBounds.{Represents, term_fair, term_present}
-use Rattle.guideline_rules.specs.declared.Guidelines.{Guidelines}
+use Rattle.guideline_rules.specs.Answer.{Guidelines}
 use Rattle.guideline_rules.proofs.Accepted.{Accepted, values_of_lem, accepted_inputs, scenario_passed}
 use Rattle.guideline_rules.specs.Pathway.{record_tests, record_refusal}
 use Rattle.guideline_rules.specs.Guideline.{side_of, target_value, guidelines_of, guideline_ranged, accepted, guidelines_sent, worked_out, guideline_of}
-use Rattle.guideline_rules.specs.Promise.{target_of, side_at, pathway_at, Kept, Promised}
+use Rattle.guideline_rules.specs.Promise.{target_of, pathway_at, Kept, Promised}
+use Rattle.formulas.specs.Sides.{side_at}
 use Rattle.guideline_rules.proofs.WorkedOut.{total_bounds, present_total}
 
 -- ---- nineteen roundings are less than 2/10,000,000

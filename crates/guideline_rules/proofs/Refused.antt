@@ -6,7 +6,7 @@ use Rattle.outcome.specs.Outcome.{number_of}
 use Rattle.outcome.proofs.Numbers.{refused_value}
 use Rattle.inputs.specs.declared.Scenario.{Scenario}
 use Rattle.inputs.specs.declared.Contaminant.{Contaminant}
-use Rattle.guideline_rules.specs.declared.Guidelines.{Guidelines}
+use Rattle.guideline_rules.specs.Answer.{Guidelines}
 use Rattle.guideline_rules.specs.Guideline.{guidelines_sent, zero_side, guideline_of}
 
 pub record Told (g : Result Guidelines Refused) : Type 0 where

@@ -15,7 +15,7 @@ use Rattle.formulas.specs.Formula.{Formula, none, TR, THI}
 use Rattle.formulas.specs.Term.{look, term_of, total_of, formulas_for, values_for}
 use Rattle.guideline_rules.specs.Pathway.{record_refusal}
 use Rattle.guideline_rules.specs.declared.SideGuidelines.{SideGuidelines}
-use Rattle.guideline_rules.specs.declared.Guidelines.{Guidelines}
+use Rattle.guideline_rules.specs.Answer.{Guidelines}
 
 -- ---- the guidelines of a side over its target: target divided by the upper term, down; the total by the upper term sum
 unfoldable pub side_of : List Decimal → Decimal → List Formula → SideGuidelines

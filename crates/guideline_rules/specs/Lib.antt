@@ -1,3 +1,4 @@
+pub mod Answer
 pub mod Pathway
 pub mod Guideline
 pub mod Promise

@@ -5,15 +5,10 @@ use Rattle.decimal.specs.Fraction.{Fraction, given, times, AtMost}
 use Rattle.inputs.specs.declared.Scenario.{Scenario}
 use Rattle.formulas.specs.Side.{Side, Risk, Hazard}
 use Rattle.guideline_rules.specs.declared.SideGuidelines.{SideGuidelines}
-use Rattle.guideline_rules.specs.declared.Guidelines.{Guidelines}
 
 abbrev pub target_of : Scenario → Side → Decimal
 target_of s Risk = s.targets.tr
 target_of s Hazard = s.targets.thi
-
-abbrev pub side_at : Guidelines → Side → SideGuidelines
-side_at g Risk = g.risk
-side_at g Hazard = g.hazard
 
 -- the guideline of pathway 0, 1 or 2
 abbrev pub pathway_at : SideGuidelines → ℕ → Decimal

@@ -2,6 +2,7 @@
 #![tactic(auto)]
 
 use decimal::Decimal;
+use formulas::Sides;
 
 // The guidelines of a side: three pathways and the total; zero where absent.
 #[derive(Clone, Copy)]
@@ -13,8 +14,4 @@ pub struct SideGuidelines {
 }
 
 // Those of both sides: what an accepted call answers.
-#[derive(Clone, Copy)]
-pub struct Guidelines {
-    pub risk: SideGuidelines,
-    pub hazard: SideGuidelines,
-}
+pub type Guidelines = Sides<SideGuidelines>;

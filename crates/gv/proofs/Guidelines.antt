@@ -4,7 +4,7 @@ use Rattle.std.specs.Prelude.{Result}
 use Rattle.outcome.specs.declared.Refused.{Refused}
 use Rattle.inputs.specs.declared.Contaminant.{Contaminant}
 use Rattle.block_rules.specs.declared.Header.{Header}
-use Rattle.guideline_rules.specs.declared.Guidelines.{Guidelines}
+use Rattle.guideline_rules.specs.Answer.{Guidelines}
 use Rattle.guideline_rules.specs.Guideline.{guideline_of}
 use Rattle.gv_rules.specs.Exports.{header_from, contaminant_from}
 

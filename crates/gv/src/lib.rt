@@ -36,7 +36,7 @@ fn put_answer(own: Result<Guidelines, Refused>, out: &mut [u8]) -> Result<Guidel
     if out.len() < 64 {
         return Err(Refusal::Room.in_block(0));
     }
-    c_structs::put_guidelines(out, g.risk, g.hazard);
+    c_structs::put_guidelines(out, g);
     Ok(g)
 }
 

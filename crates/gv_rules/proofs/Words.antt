@@ -13,7 +13,7 @@ use Rattle.inputs.specs.declared.Scenario.{Scenario}
 use Rattle.inputs.specs.declared.Contaminant.{Contaminant}
 use Rattle.inputs.specs.Rules.{scenario_refusal, contaminant_fits}
 use Rattle.formulas.specs.Side.{Risk, Hazard}
-use Rattle.guideline_rules.specs.declared.Guidelines.{Guidelines}
+use Rattle.guideline_rules.specs.Answer.{Guidelines}
 use Rattle.guideline_rules.specs.Pathway.{record_refusal}
 use Rattle.guideline_rules.specs.Guideline.{guideline_ranged, worked_out, guideline_of}
 use Rattle.sum_rules.specs.Promise.{side_sent}

@@ -14,9 +14,9 @@ use Rattle.block_rules.specs.Reading.{no_header, header_at, header_unused, conta
 use Rattle.block_rules.specs.Layouts.{guideline_decimals}
 use Rattle.block_rules.specs.Answers.{header_answer, header_left}
 use Rattle.formulas.specs.Side.{Risk, Hazard}
-use Rattle.guideline_rules.specs.declared.Guidelines.{Guidelines}
+use Rattle.guideline_rules.specs.Answer.{Guidelines}
 use Rattle.guideline_rules.specs.Guideline.{guideline_of}
-use Rattle.sum_rules.specs.declared.Sums.{Sums}
+use Rattle.sum_rules.specs.Answer.{Sums}
 use Rattle.sum_rules.specs.Promise.{side_sent}
 
 -- ---- the word that comes back

@@ -1,9 +1,9 @@
 -- The numbers of the media and of the classes.
 use Rattle.std.specs.Prelude.{ℕ}
-use Rattle.inputs.specs.declared.Medium.{Medium}
-use Rattle.inputs.specs.declared.Medium.TheVariants.{Soil, Water}
-use Rattle.inputs.specs.declared.Class.{Class}
-use Rattle.inputs.specs.declared.Class.TheVariants.{Chemical, Radionuclide}
+use Rattle.inputs.specs.declared.kind.Medium.{Medium}
+use Rattle.inputs.specs.declared.kind.Medium.TheVariants.{Soil, Water}
+use Rattle.inputs.specs.declared.kind.Class.{Class}
+use Rattle.inputs.specs.declared.kind.Class.TheVariants.{Chemical, Radionuclide}
 
 abbrev pub medium_number : Medium → ℕ
 medium_number Soil = 1

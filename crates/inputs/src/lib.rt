@@ -1,14 +1,16 @@
 // A land-use scenario and a contaminant record, as a file or a caller gives them.
 #![tactic(auto)]
 
+mod kind;
+
 ghost use Rattle.std.specs.Prelude.{◌≡◌};
 ghost use Rattle.inputs.specs.BuiltIn.{built_in_of};
 ghost use Rattle.inputs.specs.Inputs.{exposure_decimals, contact_decimals, target_decimals, toxicity_decimals, transfer_decimals, scenario_decimals, contaminant_decimals};
-ghost use Rattle.inputs.specs.Rules.{OneOrTwo, one_or_two, scenario_fits, contaminant_fits, lacks_factor, scenario_refusal};
+ghost use Rattle.inputs.specs.Rules.{one_or_two, scenario_fits, contaminant_fits, lacks_factor, scenario_refusal};
 ghost use Rattle.inputs.specs.Valid.{valid_of, all_valid};
-ghost use Rattle.inputs.specs.Kinds.{medium_number, class_number};
 
 use decimal::Decimal;
+pub use kind::{Class, Medium};
 use outcome::{Refusal, Refused};
 use rounding::BIAS;
 
@@ -19,46 +21,6 @@ pub const MOST_CONTAMINANTS: u32 = 120;
 const LEAST: u64 = BIAS - 20;
 
 const GREATEST: u64 = BIAS + 20;
-
-// What a header's medium stands for: 1 soil, 2 water.
-#[derive(Clone, Copy)]
-pub enum Medium {
-    Soil,
-    Water,
-}
-
-// What a contaminant's class stands for: 1 chemical, 2 radionuclide.
-#[derive(Clone, Copy)]
-pub enum Class {
-    Chemical,
-    Radionuclide,
-}
-
-impl Medium {
-    // The medium of a number that keeps its rule.
-    pub fn of(n: u32) -> Medium
-        requires { OneOrTwo n }
-        ensures { medium_number result ≡ n }
-    {
-        if n == 1 {
-            return Medium::Soil;
-        }
-        Medium::Water
-    }
-}
-
-impl Class {
-    // The class of a number that keeps its rule.
-    pub fn of(n: u32) -> Class
-        requires { OneOrTwo n }
-        ensures { class_number result ≡ n }
-    {
-        if n == 2 {
-            return Class::Radionuclide;
-        }
-        Class::Chemical
-    }
-}
 
 // Zero means not known, or not part of this scenario, in every decimal below.
 // How often and how long, and of whom: exposure frequency, days per year; exposure duration, years; body weight, kg;
@@ -138,9 +100,9 @@ impl Scenario {
             ir: Decimal { m: 50, e: 0 },
             ira: Decimal { m: 20, e: 0 },
             pef: Decimal { m: 428, e: 7 },
-            et: Decimal { m: 0, e: 0 },
-            rf: Decimal { m: 0, e: 0 },
-            sa: Decimal { m: 0, e: 0 },
+            et: Decimal::ZERO,
+            rf: Decimal::ZERO,
+            sa: Decimal::ZERO,
         },
         targets: Targets {
             tr: Decimal { m: 1, e: -6 },
@@ -162,7 +124,7 @@ impl Scenario {
             pef: Decimal { m: 5, e: 6 },
             et: Decimal { m: 8, e: 0 },
             rf: Decimal { m: 1, e: 0 },
-            sa: Decimal { m: 0, e: 0 },
+            sa: Decimal::ZERO,
         },
         targets: Targets {
             tr: Decimal { m: 1, e: -6 },
@@ -184,7 +146,7 @@ impl Scenario {
             pef: Decimal { m: 2, e: 7 },
             et: Decimal { m: 4, e: 0 },
             rf: Decimal { m: 8, e: -1 },
-            sa: Decimal { m: 0, e: 0 },
+            sa: Decimal::ZERO,
         },
         targets: Targets {
             tr: Decimal { m: 1, e: -6 },
@@ -195,22 +157,22 @@ impl Scenario {
     // The scenario with every decimal zero.
     pub const BLANK: Scenario = Scenario {
         exposure: Exposure {
-            ef: Decimal { m: 0, e: 0 },
-            ed: Decimal { m: 0, e: 0 },
-            bw: Decimal { m: 0, e: 0 },
-            at: Decimal { m: 0, e: 0 },
+            ef: Decimal::ZERO,
+            ed: Decimal::ZERO,
+            bw: Decimal::ZERO,
+            at: Decimal::ZERO,
         },
         contact: Contact {
-            ir: Decimal { m: 0, e: 0 },
-            ira: Decimal { m: 0, e: 0 },
-            pef: Decimal { m: 0, e: 0 },
-            et: Decimal { m: 0, e: 0 },
-            rf: Decimal { m: 0, e: 0 },
-            sa: Decimal { m: 0, e: 0 },
+            ir: Decimal::ZERO,
+            ira: Decimal::ZERO,
+            pef: Decimal::ZERO,
+            et: Decimal::ZERO,
+            rf: Decimal::ZERO,
+            sa: Decimal::ZERO,
         },
         targets: Targets {
-            tr: Decimal { m: 0, e: 0 },
-            thi: Decimal { m: 0, e: 0 },
+            tr: Decimal::ZERO,
+            thi: Decimal::ZERO,
         },
     };
 
@@ -234,17 +196,17 @@ impl Contaminant {
         class: 0,
         id: 0,
         toxicity: Toxicity {
-            sfo: Decimal { m: 0, e: 0 },
-            sfi: Decimal { m: 0, e: 0 },
-            sfx: Decimal { m: 0, e: 0 },
-            rfdo: Decimal { m: 0, e: 0 },
-            rfdi: Decimal { m: 0, e: 0 },
+            sfo: Decimal::ZERO,
+            sfi: Decimal::ZERO,
+            sfx: Decimal::ZERO,
+            rfdo: Decimal::ZERO,
+            rfdi: Decimal::ZERO,
         },
         transfer: Transfer {
-            vf: Decimal { m: 0, e: 0 },
-            pc: Decimal { m: 0, e: 0 },
+            vf: Decimal::ZERO,
+            pc: Decimal::ZERO,
         },
-        c: Decimal { m: 0, e: 0 },
+        c: Decimal::ZERO,
     };
 }
 

@@ -6,7 +6,7 @@ ghost use Rattle.text.specs.Text.{put, HasRoom};
 ghost use Rattle.listing_rules.specs.Lines.{spaced, line_of, lines_of, sum_line, refusal_line};
 
 use decimal::Decimal;
-use guideline_rules::SideGuidelines;
+use guideline_rules::{Guidelines, SideGuidelines};
 use listing_rules::Side;
 use spelling::{mark_of, put_side, put_verdict};
 use sum_rules::SideSums;
@@ -39,15 +39,15 @@ fn put_line(text: &mut Text, id: u32, side: Side, g: SideGuidelines)
 
 // The lines of a contaminant. A radionuclide, class 2, has its risk line only.
 #[tactic(auto, using(listing_rules::proofs::Lengths::parts), unfolding(listing_rules::specs::Lines::lines_of))]
-pub fn put_lines(text: &mut Text, class: u32, id: u32, risk: SideGuidelines, hazard: SideGuidelines)
+pub fn put_lines(text: &mut Text, class: u32, id: u32, g: Guidelines)
     requires { HasRoom text.old 192 }
-    ensures { text.new ≡ put text.old (lines_of class id risk hazard) }
+    ensures { text.new ≡ put text.old (lines_of class id g.risk g.hazard) }
 {
-    put_line(text, id, Side::Risk, risk);
+    put_line(text, id, Side::Risk, g.risk);
     if class == 2 {
         return;
     }
-    put_line(text, id, Side::Hazard, hazard);
+    put_line(text, id, Side::Hazard, g.hazard);
 }
 
 // The sums of a side: its word, lower, upper, verdict.

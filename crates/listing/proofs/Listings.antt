@@ -12,7 +12,7 @@ use Rattle.std.specs.Prelude.{Result, Ok, Err}
 use Rattle.outcome.specs.declared.Refused.{Refused}
 use Rattle.outcome.specs.Outcome.{refusal_number, number_of}
 use Rattle.words.specs.Bytes.{over}
-use Rattle.sum_rules.specs.declared.Sums.{Sums}
+use Rattle.sum_rules.specs.Answer.{Sums}
 use Rattle.site_rules.specs.Blocks.{header_of}
 use Rattle.site_rules.specs.Site.{site_answer}
 use Rattle.site_rules.specs.Results.{site_left}

@@ -9,7 +9,7 @@ use Rattle.fields.specs.Fields.{decimal_at}
 use Rattle.text.specs.declared.Text.{Text}
 use Rattle.text.specs.Text.{HasRoom}
 use Rattle.guideline_rules.specs.declared.SideGuidelines.{SideGuidelines}
-use Rattle.sum_rules.specs.declared.Sums.{Sums}
+use Rattle.sum_rules.specs.Answer.{Sums}
 use Rattle.site_rules.specs.Blocks.{block_at, header_of}
 use Rattle.site_rules.specs.Passed.{Opened}
 use Rattle.listing_rules.specs.declared.Side.TheVariants.{Risk, Hazard}

@@ -10,7 +10,7 @@ ghost use Rattle.listing_rules.specs.Listing.{text_of, text_length, text_left};
 ghost use Rattle.listing.specs.Asked.{side_read, block_lines, block_lines_to, block_text, Listing, Answered};
 
 use block_rules::BLOCK_SIZE;
-use guideline_rules::SideGuidelines;
+use guideline_rules::{Guidelines, SideGuidelines};
 use listing_rules::Side;
 use outcome::Refused;
 use sum_rules::Sums;
@@ -47,7 +47,7 @@ fn put_place(text: &mut Text, block: &[u8])
     let id = words::word(block, 12);
     let risk = get_side(block, 16);
     let hazard = get_side(block, 48);
-    lines::put_lines(text, class, id, risk, hazard);
+    lines::put_lines(text, class, id, Guidelines { risk, hazard });
 }
 
 // The lines of all result blocks, which stand behind the first block.

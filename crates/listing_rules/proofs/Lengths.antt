@@ -24,7 +24,7 @@ use Rattle.listing_rules.specs.Listing.{lines_to, accepted_text, text_of, listin
 use Rattle.std.specs.Prelude.{Result, Ok, Err}
 use Rattle.outcome.specs.declared.Refused.{Refused}
 use Rattle.outcome.specs.Outcome.{refusal_number, number_of}
-use Rattle.sum_rules.specs.declared.Sums.{Sums}
+use Rattle.sum_rules.specs.Answer.{Sums}
 use Rattle.site_rules.specs.Passed.{Opened}
 use Rattle.site_rules.proofs.Opened.{count_most}
 use Rattle.site_rules.proofs.Passed.{passed_site}

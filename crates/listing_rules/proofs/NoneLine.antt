@@ -6,13 +6,14 @@ use native.Mathlib.Omega.{arith}
 use Rattle.std.specs.Prelude.{Result, Ok}
 use Rattle.outcome.specs.declared.Refused.{Refused}
 use Rattle.outcome.specs.Outcome.{number_of}
-use Rattle.sum_rules.specs.declared.Sums.{Sums}
+use Rattle.sum_rules.specs.Answer.{Sums}
 use Rattle.sum_rules.specs.declared.SideSums.{SideSums}
 use Rattle.sum_rules.specs.declared.Verdict.{Verdict}
 use Rattle.sum_rules.specs.declared.Verdict.TheVariants.{Within, Above, Undecided, NoPathway}
 use Rattle.formulas.specs.Side as formulas
 use Rattle.sum_rules.specs.Verdict.{verdict_number}
-use Rattle.sum_rules.specs.Promise.{side_at, sent_of, side_sent, ZeroSums}
+use Rattle.sum_rules.specs.Promise.{sent_of, side_sent, ZeroSums}
+use Rattle.formulas.specs.Sides.{side_at}
 use Rattle.site_rules.specs.Site.{site_answer}
 use Rattle.site_rules.proofs.Promises.{site_none_zero}
 use Rattle.text.specs.Decimals.{or_else}

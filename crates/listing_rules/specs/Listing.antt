@@ -5,7 +5,7 @@ use Rattle.outcome.specs.Outcome.{refusal_number}
 use Rattle.inputs.specs.declared.Scenario.{Scenario}
 use Rattle.words.specs.Bytes.{over}
 use Rattle.guideline_rules.specs.Guideline.{guidelines_sent, guideline_of}
-use Rattle.sum_rules.specs.declared.Sums.{Sums}
+use Rattle.sum_rules.specs.Answer.{Sums}
 use Rattle.site_rules.specs.Blocks.{header_of, record_at}
 use Rattle.site_rules.specs.Site.{site_answer}
 use Rattle.listing_rules.specs.declared.Side.TheVariants.{Risk, Hazard}

@@ -21,10 +21,10 @@ use Rattle.words.proofs.Written.{over_length, over_all, lent_part}
 use Rattle.fields.specs.Fields.{decimals_at}
 use Rattle.words.specs.Words.{part_of}
 use Rattle.guideline_rules.specs.declared.SideGuidelines.{SideGuidelines}
-use Rattle.guideline_rules.specs.declared.Guidelines.{Guidelines}
+use Rattle.guideline_rules.specs.Answer.{Guidelines}
 use Rattle.guideline_rules.specs.Guideline.{guideline_of, guidelines_sent}
 use Rattle.guideline_rules.proofs.Accepted.{scenario_passed}
-use Rattle.sum_rules.specs.declared.Sums.{Sums}
+use Rattle.sum_rules.specs.Answer.{Sums}
 use Rattle.block_rules.specs.declared.Header.{Header}
 use Rattle.block_rules.specs.Rules.{in_file}
 use Rattle.block_rules.specs.Layouts.{header_block, contaminant_block}

@@ -9,7 +9,7 @@ use Rattle.inputs.specs.declared.Scenario.{Scenario}
 use Rattle.inputs.specs.declared.Contaminant.{Contaminant}
 use Rattle.block_rules.specs.Reading.{contaminant_at}
 use Rattle.blocks.proofs.Answers.{contaminant_here}
-use Rattle.guideline_rules.specs.declared.Guidelines.{Guidelines}
+use Rattle.guideline_rules.specs.Answer.{Guidelines}
 use Rattle.guideline_rules.specs.declared.SideGuidelines.{SideGuidelines}
 use Rattle.block_rules.specs.Layouts.{result_block}
 use Rattle.terms.specs.Side.{Wide, WideSide}
@@ -22,7 +22,7 @@ use Rattle.guideline.proofs.ColumnBounds.{column_printable}
 use Rattle.guideline.proofs.Steps.{TermsOf, ColumnsOf, wide, risk_column, hazard_column, accepted_out}
 use Rattle.shares.specs.declared.plan.Plan.{Plan}
 use Rattle.shares.specs.declared.Worked.{Worked}
-use Rattle.shares.specs.declared.Runs.{Runs}
+use Rattle.shares.specs.Runs.{Runs}
 use Rattle.shares.specs.Plan.{Workable, WorkedFor, Addable, Added}
 use Rattle.sums.specs.State.{RunsReady}
 use Rattle.shares.proofs.Plans.{inputs_of_lem}

@@ -4,7 +4,7 @@ use mathlib.Core.List.{List}
 use Prim.Native.Nat.{ℕ, ◌+◌, ◌-◌, ◌≤◌, ◌<◌}
 use native.Mathlib.Omega.{arith}
 use Rattle.shares.specs.declared.plan.Plan.{Plan}
-use Rattle.shares.specs.declared.Runs.{Runs}
+use Rattle.shares.specs.Runs.{Runs}
 use Rattle.inputs.specs.Limits.{share_width}
 use Rattle.formulas.specs.Side.{Side, Risk, Hazard}
 use Rattle.sum_rules.specs.Share.{Running, start, next, run_all}

@@ -6,8 +6,8 @@ use Rattle.inputs.specs.Rules.{most_contaminants, lacks_factor}
 use Rattle.inputs.specs.Limits.{share_width}
 use Rattle.formulas.specs.Side.{Risk, Hazard}
 use Rattle.shares.specs.declared.plan.Plan.{Plan}
-use Rattle.shares.specs.declared.Runs.{Runs}
-use Rattle.sum_rules.specs.declared.Sums.{Sums}
+use Rattle.shares.specs.Runs.{Runs}
+use Rattle.sum_rules.specs.Answer.{Sums}
 use Rattle.sum_rules.specs.Share.{start, run_all}
 use Rattle.shares.specs.Plan.{running_of}
 use Rattle.sums.specs.State.{RunsReady}

@@ -10,6 +10,7 @@ ghost use Rattle.result_blocks.specs.Writing.{Writing, WritingOne, AllAdded, blo
 ghost use Rattle.sums.specs.State.{NextRuns};
 
 use block_rules::BLOCK_SIZE;
+use guideline_rules::Guidelines;
 use shares::{Plan, Runs};
 use sum_rules::Sums;
 
@@ -23,11 +24,11 @@ fn put_block(site: &[u8], p: Plan, place: u32, runs: &mut Runs, out: &mut [u8])
     let to = at + 508;
     let r = blocks::get_contaminant(&site[from..to], 4);
     let w = p.work(r);
-    let g = guideline::columns_of(p.up.factors.targets.tr, p.up.factors.targets.thi, w.above);
+    let g = guideline::columns_of(p.up.factors.targets, w.above);
     let risk = guideline::decimals(g.risk);
     let hazard = guideline::decimals(g.hazard);
-    block_output::put_result(out, place, r.class, r.id, risk, hazard);
-    runs.add_shares(w, g.risk.sum, g.hazard.sum);
+    block_output::put_result(out, place, r.class, r.id, Guidelines { risk, hazard });
+    shares::add_shares(runs, w, g.risk.sum, g.hazard.sum);
 }
 
 // The result blocks of all contaminants, each in its own part of the output, and their sums.
@@ -52,8 +53,6 @@ pub fn put_results(site: &[u8], p: Plan, count: u32, out: &mut [u8]) -> Sums
 {
     let runs = put_blocks(site, p, count, out);
     let a = sums::reported(p, runs);
-    let risk = a.risk;
-    let hazard = a.hazard;
-    block_output::put_summary(&mut out[0..BLOCK_SIZE], risk, hazard);
+    block_output::put_summary(&mut out[0..BLOCK_SIZE], a);
     a
 }

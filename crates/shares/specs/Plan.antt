@@ -13,14 +13,14 @@ use Rattle.inputs.specs.declared.Contaminant.{Contaminant}
 use Rattle.inputs.specs.Rules.{lacks_factor, contaminant_fits}
 use Rattle.factors.specs.declared.numbers.ContaminantNumbers.{ContaminantNumbers}
 use Rattle.terms.specs.declared.pathways.PathwayTerms.{PathwayTerms}
-use Rattle.terms.specs.declared.pathways.Terms.{Terms}
+use Rattle.terms.specs.Side.{Terms}
 use Rattle.inputs.specs.Limits.{input_width, sum_width}
 use Rattle.factors.specs.Stands.{Stands, NumbersFor, Input}
 use Rattle.terms.specs.Side.{TermsFor, TotalSize}
 use Rattle.shares.specs.declared.plan.Plan.{Plan}
 use Rattle.shares.specs.declared.Worked.{Worked}
 use Rattle.shares.specs.declared.SideRun.{SideRun}
-use Rattle.shares.specs.declared.Runs.{Runs}
+use Rattle.shares.specs.Runs.{Runs}
 use Rattle.sum_rules.specs.Share.{Running, used_of}
 use Rattle.sum_rules.specs.ListCall.{first_refusal}
 

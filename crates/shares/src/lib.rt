@@ -10,6 +10,7 @@ ghost use Rattle.factors.specs.Stands.{Input};
 ghost use Rattle.sum_rules.specs.ListCall.{first_refusal};
 ghost use Rattle.shares.specs.Plan.{Planned, Begun, Workable, WorkedFor, RunSize, Shared, Addable, Added};
 
+use formulas::Sides;
 use inputs::{Class, Contaminant, Medium, Scenario, scenario_refusal};
 use outcome::{Refusal, Refused, located};
 pub use plan::Plan;
@@ -37,11 +38,7 @@ pub struct SideRun {
 }
 
 // The running sums of both sides.
-#[derive(Clone, Copy)]
-pub struct Runs {
-    pub risk: SideRun,
-    pub hazard: SideRun,
-}
+pub type Runs = Sides<SideRun>;
 
 // The refusal before the first of n records: 1 for their number, 4 and 6 for the scenario and the medium.
 fn first_refusal(s: Scenario, medium: u32, n: usize) -> Result<(), Refusal>
@@ -111,13 +108,11 @@ impl SideRun {
     }
 }
 
-impl Runs {
-    // Adds a record, by its terms and the sums of its upper terms.
-    pub fn add_shares(&mut self, w: Worked, risk: Number, hazard: Number)
-        requires { Addable self.old w risk hazard }
-        ensures { Added self.old w risk hazard self.new }
-    {
-        self.risk.add_share(w.c, w.risk, risk);
-        self.hazard.add_share(w.c, w.hazard, hazard);
-    }
+// Adds a record, by its terms and the sums of its upper terms.
+pub fn add_shares(runs: &mut Runs, w: Worked, risk: Number, hazard: Number)
+    requires { Addable runs.old w risk hazard }
+    ensures { Added runs.old w risk hazard runs.new }
+{
+    runs.risk.add_share(w.c, w.risk, risk);
+    runs.hazard.add_share(w.c, w.hazard, hazard);
 }

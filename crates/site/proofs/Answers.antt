@@ -12,7 +12,7 @@ use Rattle.outcome.specs.declared.Refused.{Refused}
 use Rattle.outcome.specs.Outcome.{number_of, refused}
 use Rattle.words.specs.Bytes.{over}
 use Rattle.block_rules.specs.declared.Header.{Header}
-use Rattle.sum_rules.specs.declared.Sums.{Sums}
+use Rattle.sum_rules.specs.Answer.{Sums}
 use Rattle.sum_rules.specs.Share.{start}
 use Rattle.sum_rules.proofs.InRange.{fair_start}
 use Rattle.site_rules.specs.Blocks.{records_from, all_sums, record_at}

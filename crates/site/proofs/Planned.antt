@@ -12,7 +12,7 @@ use Rattle.block_rules.specs.declared.Header.{Header}
 use Rattle.block_rules.specs.Layouts.{summary_block}
 use Rattle.block_rules.proofs.ResultsBack.{summary_length}
 use Rattle.shares.specs.declared.plan.Plan.{Plan}
-use Rattle.sum_rules.specs.declared.Sums.{Sums}
+use Rattle.sum_rules.specs.Answer.{Sums}
 use Rattle.sum_rules.specs.ListCall.{first_refusal}
 use Rattle.shares.specs.Plan.{Planned}
 use Rattle.sums.proofs.Started.{plan_known}

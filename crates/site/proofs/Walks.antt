@@ -17,7 +17,7 @@ use Rattle.block_rules.specs.Reading.{contaminant_read}
 use Rattle.formulas.specs.Side.{Risk, Hazard}
 use Rattle.guideline_rules.specs.Pathway.{record_refusal}
 use Rattle.guideline_rules.proofs.Accepted.{accepted_inputs}
-use Rattle.sum_rules.specs.declared.Sums.{Sums}
+use Rattle.sum_rules.specs.Answer.{Sums}
 use Rattle.sum_rules.specs.Share.{Running, next, run_all}
 use Rattle.sum_rules.specs.ListCall.{accepted, taken_in}
 use Rattle.sum_rules.proofs.TakenIn.{taken_ranged}

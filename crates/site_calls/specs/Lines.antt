@@ -3,7 +3,7 @@ use Rattle.std.specs.Prelude.{ℕ, ◌-◌, ◌^◌, List, [], ◌∷◌, ◌++�
 use lib.Chars.{codes}
 use Rattle.std.specs.Fmt.{decimal, digits, padded_integral, format_spec}
 use Rattle.outcome.specs.declared.Refused.{Refused}
-use Rattle.sum_rules.specs.declared.Sums.{Sums}
+use Rattle.sum_rules.specs.Answer.{Sums}
 use Rattle.site_rules.specs.Site.{site_answer}
 use Rattle.site_rules.specs.Results.{site_left}
 use Rattle.listing_rules.specs.Listing.{listing_of}

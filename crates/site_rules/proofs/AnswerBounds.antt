@@ -20,10 +20,11 @@ use Rattle.block_rules.proofs.Found.{header_sent, contaminant_sent}
 use Rattle.formulas.specs.Side.{Side, Risk, Hazard}
 use Rattle.guideline_rules.specs.Pathway.{record_refusal}
 use Rattle.guideline_rules.proofs.Accepted.{accepted_inputs}
-use Rattle.sum_rules.specs.declared.Sums.{Sums}
+use Rattle.sum_rules.specs.Answer.{Sums}
 use Rattle.sum_rules.specs.Share.{Running, start, next}
 use Rattle.sum_rules.specs.ListCall.{block_ranged, taken_in}
-use Rattle.sum_rules.specs.Promise.{side_at, side_sent}
+use Rattle.sum_rules.specs.Promise.{side_sent}
+use Rattle.formulas.specs.Sides.{side_at}
 use Rattle.sum_rules.proofs.TakenIn.{taken_ranged}
 use Rattle.sum_rules.proofs.NeverOutOfRange.{record_told}
 use Rattle.outcome.proofs.Numbers.{number_most}

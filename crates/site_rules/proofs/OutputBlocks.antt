@@ -17,7 +17,7 @@ use Rattle.inputs.specs.declared.Scenario.{Scenario}
 use Rattle.words.specs.Words.{part_of}
 use Rattle.words.specs.Bytes.{over}
 use Rattle.words.proofs.Written.{over_length}
-use Rattle.sum_rules.specs.declared.Sums.{Sums}
+use Rattle.sum_rules.specs.Answer.{Sums}
 use Rattle.block_rules.specs.Layouts.{summary_block}
 use Rattle.block_rules.proofs.ResultsBack.{result_length, summary_length}
 use Rattle.site_rules.specs.Blocks.{block_at, header_of}

@@ -14,7 +14,7 @@ use Rattle.outcome.specs.Outcome.{located, on_read, refused, number_of}
 use Rattle.outcome.proofs.Numbers.{refusal_numbered}
 use Rattle.block_rules.specs.declared.Header.{Header}
 use Rattle.block_rules.specs.Reading.{header_read, contaminant_read}
-use Rattle.sum_rules.specs.declared.Sums.{Sums}
+use Rattle.sum_rules.specs.Answer.{Sums}
 use Rattle.sum_rules.specs.Share.{start, Running, next}
 use Rattle.sum_rules.specs.ListCall.{taken_in}
 use Rattle.sum_rules.proofs.TakenIn.{taken_passed}

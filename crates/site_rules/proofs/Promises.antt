@@ -17,10 +17,11 @@ use Rattle.formulas.specs.Formula.{none}
 use Rattle.formulas.specs.Term.{formulas_for}
 use Rattle.formulas.specs.ExactTerm.{exact_present, exact_term, exact_total, exact_for, any_present}
 use Rattle.guideline_rules.specs.Guideline.{guidelines_sent, guideline_of}
-use Rattle.guideline_rules.specs.Promise.{target_of, pathway_at, Promised, side_at as guidelines_at}
+use Rattle.guideline_rules.specs.Promise.{target_of, pathway_at, Promised}
+use Rattle.formulas.specs.Sides.{side_at}
 use Rattle.guideline_rules.proofs.Accepted.{accepted_inputs}
 use Rattle.guideline_rules.proofs.Promises.{worked, promise, pathway_promises}
-use Rattle.sum_rules.specs.declared.Sums.{Sums}
+use Rattle.sum_rules.specs.Answer.{Sums}
 use Rattle.sum_rules.specs.ListCall.{sums_of}
 use Rattle.sum_rules.specs.Promise.{exact_sum, some_pathway, no_concentration, side_sent, ZeroSums, Enclosed, Judged}
 use Rattle.sum_rules.proofs.Verdicts.{sums_enclose, zero_within, verdict_judges}
@@ -87,12 +88,12 @@ module _ (site : List ℕ) (out : ℕ) (z : number_of (site_answer site out) ≡
         guideline_accepted s medium (record_at site k) (opened_fits p.opened) (opened_known p.opened) (p.records k first last)
 
     -- DEMAND 3, first sentence: the total guideline is above zero exactly when there is a pathway on that side, and then it keeps the target
-    pub site_promise : (side : Side) → Promised (guidelines_at (guidelines_sent (guideline_of s medium (record_at site k))) side).total (given (target_of s side))
+    pub site_promise : (side : Side) → Promised (side_at (guidelines_sent (guideline_of s medium (record_at site k))) side).total (given (target_of s side))
         (any_present (exact_for s (record_at site k)) (formulas_for s medium (record_at site k) side)) (exact_total (exact_for s (record_at site k)) (formulas_for s medium (record_at site k) side))
     site_promise side = promise s medium (record_at site k) site_guidelines side
 
     -- the same of each pathway's own guideline
-    pub site_pathway_promises : (side : Side) (n : ℕ) → n < 3 → Promised (pathway_at (guidelines_at (guidelines_sent (guideline_of s medium (record_at site k))) side) n) (given (target_of s side))
+    pub site_pathway_promises : (side : Side) (n : ℕ) → n < 3 → Promised (pathway_at (side_at (guidelines_sent (guideline_of s medium (record_at site k))) side) n) (given (target_of s side))
         (exact_present (exact_for s (record_at site k)) (get_or (formulas_for s medium (record_at site k) side) n none))
         (exact_term (exact_for s (record_at site k)) (get_or (formulas_for s medium (record_at site k) side) n none))
     site_pathway_promises side n m = pathway_promises s medium (record_at site k) site_guidelines side n m

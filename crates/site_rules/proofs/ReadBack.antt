@@ -31,11 +31,11 @@ use Rattle.formulas.specs.Side.{Side, Risk, Hazard}
 use Rattle.formulas.specs.Formula.{Formula, none, TR, THI}
 use Rattle.formulas.specs.Term.{look, term_of, total_of, formulas_for, values_for}
 use Rattle.fields.specs.Fields.{InField}
-use Rattle.guideline_rules.specs.declared.Guidelines.{Guidelines}
+use Rattle.guideline_rules.specs.Answer.{Guidelines}
 use Rattle.guideline_rules.specs.Guideline.{side_of, side_decimals, all_ranged, guidelines_sent, guideline_of}
 use Rattle.guideline_rules.proofs.Accepted.{accepted_inputs}
 use Rattle.guideline_rules.proofs.Promises.{ranged, accepted_is}
-use Rattle.sum_rules.specs.declared.Sums.{Sums}
+use Rattle.sum_rules.specs.Answer.{Sums}
 use Rattle.sum_rules.specs.Promise.{side_sent}
 use Rattle.sum_rules.proofs.NeverOutOfRange.{RangedSums, sums_ranged}
 use Rattle.block_rules.specs.Layouts.{guideline_decimals, summary_decimals}

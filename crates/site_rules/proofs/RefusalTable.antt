@@ -14,7 +14,7 @@ use Rattle.outcome.specs.declared.Refused.{Refused}
 use Rattle.outcome.specs.Outcome.{refused, number_of}
 use Rattle.outcome.proofs.Numbers.{refusal_numbered}
 use Rattle.block_rules.specs.Rules.{in_file, count_ok}
-use Rattle.sum_rules.specs.declared.Sums.{Sums}
+use Rattle.sum_rules.specs.Answer.{Sums}
 use Rattle.site_rules.specs.Blocks.{length_ok, header_of, records_from, all_sums}
 use Rattle.site_rules.specs.Site.{site_answer}
 use Rattle.site_rules.specs.Refusals.{Condition, count_condition, site_conditions, first_holding, FirstHolds, NoneHolds, FromTable}

@@ -15,7 +15,7 @@ use Rattle.inputs.specs.declared.Contaminant.{Contaminant}
 use Rattle.block_rules.specs.declared.Header.{Header}
 use Rattle.block_rules.specs.Reading.{contaminant_read}
 use Rattle.formulas.specs.Side.{Risk, Hazard}
-use Rattle.sum_rules.specs.declared.Sums.{Sums}
+use Rattle.sum_rules.specs.Answer.{Sums}
 use Rattle.sum_rules.specs.Share.{Running, start, next}
 use Rattle.sum_rules.specs.ListCall.{first_refusal, taken_in, walk, sums_of}
 use Rattle.sum_rules.proofs.TakenIn.{taken_passed}

@@ -27,13 +27,13 @@ use Rattle.block_rules.proofs.Found.{contaminant_facts}
 use Rattle.block_rules.proofs.HeaderBack.{header_length}
 use Rattle.block_rules.proofs.ContaminantBack.{contaminant_length, contaminant_back}
 use Rattle.block_rules.proofs.ResultsBack.{ResultRead}
-use Rattle.guideline_rules.specs.declared.Guidelines.{Guidelines}
+use Rattle.guideline_rules.specs.Answer.{Guidelines}
 use Rattle.formulas.specs.Side.{Risk, Hazard}
 use Rattle.guideline_rules.specs.Pathway.{record_refusal}
 use Rattle.guideline_rules.specs.Guideline.{guidelines_sent, guideline_of}
 use Rattle.guideline_rules.proofs.Accepted.{accepted_inputs}
 use Rattle.guideline_rules.proofs.Promises.{worked}
-use Rattle.sum_rules.specs.declared.Sums.{Sums}
+use Rattle.sum_rules.specs.Answer.{Sums}
 use Rattle.sum_rules.specs.Share.{start, next}
 use Rattle.sum_rules.specs.ListCall.{walk, accepted}
 use Rattle.sum_rules.proofs.TakenIn.{taken_ranged}

@@ -16,7 +16,7 @@ use Rattle.block_rules.specs.declared.Header.{Header}
 use Rattle.block_rules.specs.Rules.{block_size}
 use Rattle.block_rules.specs.Reading.{header_read, contaminant_read}
 use Rattle.formulas.specs.Side.{Risk, Hazard}
-use Rattle.sum_rules.specs.declared.Sums.{Sums}
+use Rattle.sum_rules.specs.Answer.{Sums}
 use Rattle.sum_rules.specs.Share.{Running, start, next}
 use Rattle.sum_rules.specs.ListCall.{accepted, taken_in}
 use Rattle.site_rules.specs.Blocks.{length_ok, block_at}

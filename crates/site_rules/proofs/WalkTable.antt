@@ -24,7 +24,7 @@ use Rattle.block_rules.specs.Reading.{sound_at, header_at, header_unused, header
 use Rattle.block_rules.proofs.Rules.{is_block}
 use Rattle.formulas.specs.Side.{Risk, Hazard}
 use Rattle.guideline_rules.specs.Pathway.{record_tests, record_refusal}
-use Rattle.sum_rules.specs.declared.Sums.{Sums}
+use Rattle.sum_rules.specs.Answer.{Sums}
 use Rattle.sum_rules.specs.Share.{Running, start, next, run_all}
 use Rattle.sum_rules.specs.ListCall.{block_ranged, accepted, taken_in}
 use Rattle.site_rules.specs.Blocks.{length_ok, block_at, header_of, record_at, records_from, all_sums}

@@ -27,7 +27,7 @@ use Rattle.block_rules.specs.Layouts.{header_block, contaminant_block}
 use Rattle.block_rules.specs.Answers.{header_fit, contaminant_fit}
 use Rattle.block_rules.proofs.HeaderBack.{header_length, header_back}
 use Rattle.block_rules.proofs.ContaminantBack.{contaminant_length, contaminant_read_back}
-use Rattle.sum_rules.specs.declared.Sums.{Sums}
+use Rattle.sum_rules.specs.Answer.{Sums}
 use Rattle.sum_rules.specs.Share.{Running, start, next}
 use Rattle.sum_rules.specs.ListCall.{first_refusal, taken_in, walk, sums_of}
 use Rattle.formulas.specs.Side.{Risk, Hazard}

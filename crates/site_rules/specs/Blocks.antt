@@ -9,7 +9,7 @@ use Rattle.block_rules.specs.declared.Header.{Header}
 use Rattle.block_rules.specs.Rules.{block_size}
 use Rattle.block_rules.specs.Reading.{header_at, contaminant_at}
 use Rattle.formulas.specs.Side.{Risk, Hazard}
-use Rattle.sum_rules.specs.declared.Sums.{Sums}
+use Rattle.sum_rules.specs.Answer.{Sums}
 use Rattle.sum_rules.specs.Share.{start, run_all}
 use Rattle.sum_rules.specs.ListCall.{accepted}
 

@@ -3,7 +3,7 @@ use Rattle.std.specs.Prelude.{◌≤◌, Result}
 use Rattle.inputs.specs.Rules.{most_contaminants}
 use Rattle.outcome.specs.declared.Refused.{Refused}
 use Rattle.outcome.specs.Outcome.{number_of, block_of, most_number}
-use Rattle.sum_rules.specs.declared.Sums.{Sums}
+use Rattle.sum_rules.specs.Answer.{Sums}
 use Rattle.formulas.specs.Side.{Risk, Hazard}
 use Rattle.sum_rules.specs.Promise.{side_sent}
 

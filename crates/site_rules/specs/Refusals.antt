@@ -12,7 +12,7 @@ use Rattle.block_rules.specs.Rules.{count_ok, block_size}
 use Rattle.block_rules.specs.Reading.{sound_at, header_unused, contaminant_unused}
 use Rattle.formulas.specs.Side.{Risk, Hazard}
 use Rattle.guideline_rules.specs.Pathway.{record_tests}
-use Rattle.sum_rules.specs.declared.Sums.{Sums}
+use Rattle.sum_rules.specs.Answer.{Sums}
 use Rattle.sum_rules.specs.Share.{Running, start, next}
 use Rattle.sum_rules.specs.ListCall.{block_ranged}
 use Rattle.site_rules.specs.Blocks.{length_ok, block_at, header_of, record_at}

@@ -4,7 +4,7 @@ use Rattle.outcome.specs.declared.Refused.{Refused}
 use Rattle.inputs.specs.declared.Scenario.{Scenario}
 use Rattle.words.specs.Bytes.{over}
 use Rattle.guideline_rules.specs.Guideline.{guidelines_sent, guideline_of}
-use Rattle.sum_rules.specs.declared.Sums.{Sums}
+use Rattle.sum_rules.specs.Answer.{Sums}
 use Rattle.block_rules.specs.Layouts.{result_block, summary_block}
 use Rattle.site_rules.specs.Blocks.{header_of, record_at}
 use Rattle.site_rules.specs.Site.{site_answer}

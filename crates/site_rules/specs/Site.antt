@@ -1,7 +1,7 @@
 -- The site call of the specification: what is sent back of the bytes of a site and an output of so many bytes.
 use Rattle.std.specs.Prelude.{ℕ, List, Result}
 use Rattle.outcome.specs.declared.Refused.{Refused}
-use Rattle.sum_rules.specs.declared.Sums.{Sums}
+use Rattle.sum_rules.specs.Answer.{Sums}
 use Rattle.site_rules.specs.Blocks.{header_of, records_from, all_sums}
 use Rattle.site_rules.specs.Refusals.{site_conditions, first_holding}
 

@@ -22,7 +22,7 @@ use Rattle.inputs.proofs.Tests.{and_split}
 use Rattle.formulas.specs.Side.{Side, Risk, Hazard}
 use Rattle.guideline_rules.specs.Pathway.{record_tests, record_refusal}
 use Rattle.guideline_rules.proofs.Accepted.{Fits, accepted_inputs}
-use Rattle.sum_rules.specs.declared.Sums.{Sums}
+use Rattle.sum_rules.specs.Answer.{Sums}
 use Rattle.sum_rules.specs.Share.{Running, start, next, run_all}
 use Rattle.sum_rules.specs.ListCall.{block_ranged, side_sums, first_tests, first_refusal, taken_in, walk, sums_of}
 use Rattle.sum_rules.specs.Promise.{SideSent, sent_of, side_sent}

@@ -28,7 +28,7 @@ use Rattle.formulas.specs.ExactTerm.{exact_for, any_present}
 use Rattle.guideline_rules.specs.Pathway.{has_pathway}
 use Rattle.guideline_rules.proofs.Accepted.{Accepted, Fits, accepted_inputs, scenario_passed, values_of_lem}
 use Rattle.guideline_rules.proofs.WorkedOut.{any_same}
-use Rattle.sum_rules.specs.declared.Sums.{Sums}
+use Rattle.sum_rules.specs.Answer.{Sums}
 use Rattle.sum_rules.specs.Share.{Running, start, next, run_all, share_of}
 use Rattle.sum_rules.specs.ListCall.{side_sums, accepted, first_refusal, taken_in, walk, sums_of}
 use Rattle.sum_rules.specs.Promise.{some_pathway, sent_of, side_sent}

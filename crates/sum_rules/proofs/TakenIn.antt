@@ -8,7 +8,7 @@ use Rattle.outcome.proofs.Tests.{passing_ok}
 use Rattle.inputs.specs.declared.Scenario.{Scenario}
 use Rattle.inputs.specs.declared.Contaminant.{Contaminant}
 use Rattle.guideline_rules.specs.Pathway.{record_refusal}
-use Rattle.sum_rules.specs.declared.Sums.{Sums}
+use Rattle.sum_rules.specs.Answer.{Sums}
 use Rattle.sum_rules.specs.Share.{Running}
 use Rattle.sum_rules.specs.ListCall.{block_ranged, taken_in}
 

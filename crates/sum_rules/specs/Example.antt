@@ -5,7 +5,7 @@ use Rattle.outcome.specs.declared.Refused.{Refused}
 use Rattle.inputs.specs.declared.Contaminant.{Contaminant}
 use Rattle.guideline_rules.specs.Figures.{sample}
 use Rattle.sum_rules.specs.declared.Verdict.TheVariants.{Within}
-use Rattle.sum_rules.specs.declared.Sums.{Sums}
+use Rattle.sum_rules.specs.Answer.{Sums}
 
 abbrev pub example : List Contaminant
 example = sample (dec 2 (pos 0)) ∷ []

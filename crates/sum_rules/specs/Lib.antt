@@ -1,3 +1,4 @@
+pub mod Answer
 pub mod Share
 pub mod Verdict
 pub mod ListCall

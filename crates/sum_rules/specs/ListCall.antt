@@ -17,7 +17,7 @@ use Rattle.guideline_rules.specs.Pathway.{record_refusal}
 use Rattle.guideline_rules.specs.Guideline.{all_ranged, side_decimals}
 use Rattle.guideline_rules.specs.Promise.{target_of}
 use Rattle.sum_rules.specs.declared.SideSums.{SideSums}
-use Rattle.sum_rules.specs.declared.Sums.{Sums}
+use Rattle.sum_rules.specs.Answer.{Sums}
 use Rattle.sum_rules.specs.Share.{Running, start, next, term_sum, share_of}
 use Rattle.sum_rules.specs.Verdict.{verdict_of}
 

@@ -7,11 +7,12 @@ use Rattle.decimal.specs.Lists.{plus_all}
 use Rattle.outcome.specs.declared.Refused.{Refused}
 use Rattle.inputs.specs.declared.Scenario.{Scenario}
 use Rattle.inputs.specs.declared.Contaminant.{Contaminant}
-use Rattle.formulas.specs.Side.{Side, Risk, Hazard}
+use Rattle.formulas.specs.Side.{Side}
+use Rattle.formulas.specs.Sides.{side_at}
 use Rattle.formulas.specs.Term.{formulas_for}
 use Rattle.formulas.specs.ExactTerm.{exact_for, any_present}
 use Rattle.sum_rules.specs.declared.SideSums.{SideSums}
-use Rattle.sum_rules.specs.declared.Sums.{Sums}
+use Rattle.sum_rules.specs.Answer.{Sums}
 use Rattle.sum_rules.specs.Verdict.{verdict_number}
 use Rattle.sum_rules.specs.Share.{exact_share}
 
@@ -30,10 +31,6 @@ no_concentration [] = true
 no_concentration (r ∷ rs) = eqb r.c.m 0 && no_concentration rs
 
 -- ---- what is sent back of a side
-abbrev pub side_at : Sums → Side → SideSums
-side_at a Risk = a.risk
-side_at a Hazard = a.hazard
-
 -- two sums and the number of the verdict
 pub record SideSent : Type 0 where
   pub lower : Decimal

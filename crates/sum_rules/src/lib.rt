@@ -2,6 +2,7 @@
 #![tactic(auto)]
 
 use decimal::Decimal;
+use formulas::Sides;
 
 // The verdict of a side.
 #[derive(Clone, Copy)]
@@ -21,8 +22,4 @@ pub struct SideSums {
 }
 
 // Those of both sides: what an accepted call answers.
-#[derive(Clone, Copy)]
-pub struct Sums {
-    pub risk: SideSums,
-    pub hazard: SideSums,
-}
+pub type Sums = Sides<SideSums>;

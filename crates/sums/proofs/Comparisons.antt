@@ -9,7 +9,7 @@ use Rattle.decimal.specs.Decimal.{decimal_of, Printable, at_most_of}
 use Rattle.decimal.proofs.Laws.{decimal_worth, decimal_operable}
 use Rattle.inputs.specs.Limits.{sum_width}
 use Rattle.factors.proofs.StandsLaws.{stands_operand, stands_most}
-use Rattle.shares.specs.declared.Runs.{Runs}
+use Rattle.shares.specs.Runs.{Runs}
 use Rattle.sums.specs.State.{Comparable, RunsReady}
 
 -- what a comparison of numbers asks

@@ -16,7 +16,7 @@ use Rattle.inputs.specs.Rules.{scenario_fits, lacks_factor, contaminant_fits, mo
 use Rattle.formulas.specs.Side.{Risk, Hazard}
 use Rattle.guideline_rules.specs.Pathway.{record_refusal}
 use Rattle.guideline_rules.proofs.Accepted.{accepted_inputs}
-use Rattle.sum_rules.specs.declared.Sums.{Sums}
+use Rattle.sum_rules.specs.Answer.{Sums}
 use Rattle.sum_rules.specs.Share.{Running, next}
 use Rattle.sum_rules.specs.ListCall.{walk}
 use Rattle.sum_rules.proofs.TakenIn.{taken_ranged}

@@ -22,7 +22,7 @@ use Rattle.guideline.proofs.Steps.{sides}
 use Rattle.shares.specs.declared.plan.Plan.{Plan}
 use Rattle.shares.specs.declared.Worked.{Worked}
 use Rattle.shares.specs.declared.SideRun.{SideRun}
-use Rattle.shares.specs.declared.Runs.{Runs}
+use Rattle.shares.specs.Runs.{Runs}
 use Rattle.sums.specs.declared.State.{State}
 use Rattle.shares.specs.Plan.{Workable, WorkedFor, RunSize, Addable, Added}
 use Rattle.shares.proofs.Plans.{inputs_of_lem}

@@ -15,10 +15,10 @@ use Rattle.guideline_rules.specs.Pathway.{record_refusal}
 use Rattle.factors.specs.Stands.{Stands}
 use Rattle.shares.specs.declared.plan.Plan.{Plan}
 use Rattle.shares.specs.declared.SideRun.{SideRun}
-use Rattle.shares.specs.declared.Runs.{Runs}
+use Rattle.shares.specs.Runs.{Runs}
 use Rattle.sums.specs.declared.State.{State}
 use Rattle.sum_rules.specs.declared.SideSums.{SideSums}
-use Rattle.sum_rules.specs.declared.Sums.{Sums}
+use Rattle.sum_rules.specs.Answer.{Sums}
 use Rattle.sum_rules.specs.Verdict.{verdict_of}
 use Rattle.sum_rules.specs.Share.{Running, next}
 use Rattle.sum_rules.specs.ListCall.{working_target, accepted}

@@ -90,7 +90,7 @@ fn advance(p: Plan, t: State, r: Contaminant) -> Result<State, Refused>
     let risk = total(w.above.risk, Direction::Up);
     let hazard = total(w.above.hazard, Direction::Up);
     let mut runs = t.runs;
-    runs.add_shares(w, risk, hazard);
+    shares::add_shares(&mut runs, w, risk, hazard);
     Ok(State {
         place: t.place + 1,
         previous: r.id,

@@ -1,2 +1,3 @@
 pub mod NumberValues
 pub mod SameValues
+pub mod Products

@@ -42,7 +42,7 @@ constant_numbers = num 100000000 2992 ∷ (num 100000000 2986 ∷ (num 100000000
 constants_stand : StandAll constant_numbers (map working_of constants)
 constants_stand = next unit_stands (next millionth_stands (next thousandth_stands (next half_stands (next hours_stands (next days_stands end)))))
 
-abbrev numbers : Factors → ContaminantNumbers → List Number
+abbrev pub numbers : Factors → ContaminantNumbers → List Number
 numbers f t = constant_numbers ++ (factor_numbers f ++ contaminant_numbers t)
 
 -- values of the factors that are worked out, or zeros, in front

@@ -14,7 +14,7 @@ use Rattle.formulas.specs.Term.{constants, total_of, inputs_of, values_of}
 use Rattle.factors.specs.Stands.{StandAll, contaminant_numbers, FactorsFor, NumbersFor}
 use Rattle.factors.specs.Prepared.{PreparedFor}
 use Rattle.terms.specs.Side.{number_values, Ready, TermsFor}
-use Rattle.terms.specs.declared.pathways.Terms.{Terms}
+use Rattle.terms.specs.Side.{Terms}
 use Prim.Native.Nat.{ℕ}
 use Rattle.factors.proofs.StandsLaws.{all_own, all_same}
 

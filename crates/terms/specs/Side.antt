@@ -9,7 +9,7 @@ use Rattle.factors.specs.declared.numbers.Factors.{Factors}
 use Rattle.factors.specs.declared.numbers.ContaminantNumbers.{ContaminantNumbers}
 use Rattle.factors.specs.declared.prepared.Prepared.{Prepared}
 use Rattle.terms.specs.declared.pathways.PathwayTerms.{PathwayTerms}
-use Rattle.terms.specs.declared.pathways.Terms.{Terms}
+use Rattle.formulas.specs.declared.Sides.{Sides}
 use Rattle.formulas.specs.Side.{Risk, Hazard}
 use Rattle.formulas.specs.Formula.{Formula, B, none, pathways_of, derived}
 use Rattle.formulas.specs.Term.{look, constants, total_of, term_of}
@@ -24,6 +24,10 @@ number_inputs f t = map working_of constants ++ (map decimal_of (factor_numbers 
 -- as `values_of`: the factors that are worked out, then the inputs
 unfoldable pub number_values : Direction → Factors → ContaminantNumbers → List Decimal
 number_values dir f t = map (total_of (map (λ (fs : List Formula). zero_of) derived ++ number_inputs f t) dir) derived ++ number_inputs f t
+
+-- the terms of both sides
+abbrev pub Terms : Type 0
+Terms = Sides PathwayTerms
 
 -- the numbers that a side's terms are worked out from
 pub record Ready (dir : Direction) (p : Prepared) (t : ContaminantNumbers) : Type 0 where

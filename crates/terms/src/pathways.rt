@@ -11,6 +11,7 @@ ghost use Rattle.inputs.specs.Kinds.{medium_number, class_number};
 
 use factors::numbers::ContaminantNumbers;
 use factors::prepared::{DAYS, HALF, MILLIONTH, ONE, Prepared, product3};
+use formulas::Sides;
 use inputs::{Class, Medium};
 use rounding::{BIAS, Direction, NINE_DIGITS, Number};
 
@@ -34,11 +35,7 @@ pub struct PathwayTerms {
 }
 
 // The terms of both sides.
-#[derive(Clone, Copy)]
-pub struct Terms {
-    pub risk: PathwayTerms,
-    pub hazard: PathwayTerms,
-}
+pub type Terms = Sides<PathwayTerms>;
 
 // What the terms are worked out from in a direction: what a scenario gives once, and the numbers of a contaminant.
 #[derive(Clone, Copy)]

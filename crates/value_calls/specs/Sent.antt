@@ -9,10 +9,10 @@ use Rattle.outcome.specs.Outcome.{number_of, block_of}
 use Rattle.inputs.specs.BuiltIn.{scenario_sent}
 use Rattle.inputs.specs.declared.Scenario.{Scenario}
 use Rattle.formulas.specs.Side.{Risk, Hazard}
-use Rattle.guideline_rules.specs.declared.Guidelines.{Guidelines}
+use Rattle.guideline_rules.specs.Answer.{Guidelines}
 use Rattle.guideline_rules.specs.declared.SideGuidelines.{SideGuidelines}
 use Rattle.guideline_rules.specs.Guideline.{guidelines_sent}
-use Rattle.sum_rules.specs.declared.Sums.{Sums}
+use Rattle.sum_rules.specs.Answer.{Sums}
 use Rattle.sum_rules.specs.Promise.{side_sent}
 use Rattle.case_output.specs.Printed.{next_text, all_text, four_text}
 

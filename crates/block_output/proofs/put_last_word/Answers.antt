@@ -9,6 +9,6 @@ pub returns : goal.returns
 unfolding last_word
 returns c =
     c.put.ensures ∙ ap (λ (n : ℕ). placed c.args.out.now 508 (le4 n))
-    (negate c.wrapping_sub_u32.result c.sum-sum.result (omega arith) (omega arith) c.wrapping_sub_u32.ensures.value
+    (negate c.wrapping_neg.result c.sum-sum.result (omega arith) (omega arith) c.wrapping_neg.ensures
     ∙ ap (λ (n : ℕ). (4294967296 - n) % 4294967296) c.sum-sum.ensures
     ∙ ap (λ (n : ℕ). (4294967296 - n % 4294967296) % 4294967296) (sum_of_first c.args.out.now c.args.n c.requires.1 c.requires.2))

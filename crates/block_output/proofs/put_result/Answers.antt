@@ -15,8 +15,8 @@ pub returns : goal.returns
 unfolding result_block body_of
 returns c =
     let v = c.args in
-    let r = v.risk in
-    let h = v.hazard in
+    let r = v.g.risk in
+    let h = v.g.hazard in
     let first = first_words 3 v.place v.class v.id in
     let x : List Decimal = r.first ∷ (r.second ∷ (r.third ∷ (r.total ∷ []))) in
     let y : List Decimal = h.first ∷ (h.second ∷ (h.third ∷ (h.total ∷ []))) in

@@ -21,8 +21,8 @@ wrote_word {l} {p} {d} {at} n l' w e q = wrote_next l' (le4 n) 4 w (e ∙ ap (λ
 pub returns : goal.returns
 unfolding summary_block body_of
 returns c =
-    let r = c.args.risk in
-    let h = c.args.hazard in
+    let r = c.args.a.risk in
+    let h = c.args.a.hazard in
     let d = c.args.out.now in
     let u = le4 (verdict_number r.verdict) in
     let v = le4 (verdict_number h.verdict) in

@@ -9,8 +9,8 @@ use Rattle.c_structs.proofs.put_guidelines.Goals as goal
 
 pub returns : goal.returns
 returns c =
-    let r = c.args.r in
-    let h = c.args.h in
+    let r = c.args.g.risk in
+    let h = c.args.g.hazard in
     let d = c.args.out.now in
     let x : List Decimal = r.first ∷ (r.second ∷ (r.third ∷ (r.total ∷ []))) in
     let y : List Decimal = h.first ∷ (h.second ∷ (h.third ∷ (h.total ∷ []))) in

@@ -10,7 +10,7 @@ use Rattle.factors.specs.declared.prepared.Prepared.{Prepared}
 use Rattle.factors.specs.Stands.{FactorsFor, NumbersFor}
 use Rattle.factors.specs.Prepared.{PreparedFor}
 use Rattle.factors.proofs.StandsLaws.{all_own}
-use Rattle.terms.specs.declared.pathways.Terms.{Terms}
+use Rattle.terms.specs.Side.{Terms}
 use Rattle.terms.specs.Side.{TermsFor}
 use Rattle.terms.proofs.SameValues.{ready, terms_at}
 use Rattle.guideline_rules.proofs.Accepted.{Accepted}

@@ -2,7 +2,7 @@
 use Rattle.std.proofs.Common.{length, refl, ap, ◌∙◌}
 use Rattle.std.specs.Prelude.{Result}
 use Rattle.outcome.specs.declared.Refused.{Refused}
-use Rattle.guideline_rules.specs.declared.Guidelines.{Guidelines}
+use Rattle.guideline_rules.specs.Answer.{Guidelines}
 use Rattle.gv_rules.specs.Exports.{with_room, guideline_sent, guideline_word, guideline_put}
 use Rattle.gv.proofs.Guidelines.{own_is}
 use Rattle.gv.proofs.gv_guideline.Goals as goal

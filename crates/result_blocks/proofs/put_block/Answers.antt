@@ -54,7 +54,7 @@ returns c =
     let q : ◌≡◌ {A = Contaminant} r _ = read_is site place r c.get_contaminant-r.ensures in
     let g = guideline_is pre.known read k u v in
     let m = one_more pre.known read k u v (omega (arith, pre.most)) pre.runs c.add_shares.ensures in (
-      subst (λ (x : Contaminant). NextRuns p x place c.args.runs.now c.add_shares.new.self) q m,
+      subst (λ (x : Contaminant). NextRuns p x place c.args.runs.now c.add_shares.new.runs) q m,
       c.put_result.ensures ∙
           ap₂ (λ (x y : SideGuidelines). over (result_block place r.class r.id x y) out) c.decimals-risk.ensures c.decimals-hazard.ensures ∙
           ap (λ (b : List ℕ). over b out) (block_is p.scenario p.medium site place r _ _ q g),

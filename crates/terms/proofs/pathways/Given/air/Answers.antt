@@ -17,9 +17,10 @@ div-requires c = let r = range c.args.self.ready in (r One, r VF)
 
 pub add-requires : goal.add-requires
 add-requires c =
-    let r = input c.args.self.ready in
+    let ready = c.args.self.ready in
+    let r = input ready in
     let quotient = stands_div c.args.self.dir (r One) (r VF) (lit≤ tt) c.div.ensures.0 in
-    ((stands_operand (lit≤ tt) quotient).range, (stands_operand (lit≤ tt) c.args.self.ready.prepared.inverse_pef).range)
+    ((stands_operand (lit≤ tt) quotient).range, (stands_operand (lit≤ tt) ready.prepared.inverse_pef).range)
 
 pub returns : goal.returns
 unfolding air_number

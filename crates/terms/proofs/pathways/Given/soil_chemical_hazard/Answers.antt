@@ -4,29 +4,19 @@ use lib.Dec.{lit≤}
 use Rattle.rounding.specs.declared.Direction.{Direction}
 use Rattle.rounding.specs.declared.Number.{Number}
 use Rattle.rounding.specs.Operations.{product_of}
-use Rattle.inputs.specs.Limits.{three_width}
 use Rattle.formulas.specs.Side.{Hazard}
 use Rattle.formulas.specs.Formula.{B, Days, EF, BW, IRA, RfDo, RfDi, table, pathways_of, derived}
 use Rattle.factors.specs.declared.numbers.ContaminantNumbers.{ContaminantNumbers}
 use Rattle.factors.specs.declared.prepared.Prepared.{Prepared}
 use Rattle.factors.specs.Stands.{Stands}
-use Rattle.rounding.specs.Direction.{opposite}
 use Rattle.terms.specs.Side.{number_values, Ready, Air}
 use Rattle.factors.proofs.StandsLaws.{zero_stands, stands_div, stands_middle, stands_mul3, stands_operand}
-use Rattle.factors.proofs.Constants.{num}
-use Rattle.terms.proofs.NumberValues.{named, named_below, input, middle, side_term, stands_turned}
+use Rattle.terms.proofs.NumberValues.{named, input, middle, side_term}
+use Rattle.terms.proofs.Products.{three_below}
 use Rattle.terms.proofs.pathways.Given.soil_chemical_hazard.Goals as goal
 
--- ---- what the code multiplies
+-- ---- what the code multiplies by B
 module _ {dir : Direction} {p : Prepared} {t : ContaminantNumbers} (ready : Ready dir p t) where
-  oral : {back : Direction} {a : Number} → back ≡ opposite dir → a ≡ product_of back (product_of back t.toxicity.rfdo p.factors.exposure.bw) (num 365000000 2994) →
-      Stands three_width a (named_below dir p t (RfDo ∷ BW ∷ Days ∷ []))
-  oral {back} b e = stands_turned dir back b (input ready RfDo) (input ready BW) (input ready Days) (lit≤ tt) e
-
-  inhaled : {back : Direction} {a : Number} → back ≡ opposite dir → a ≡ product_of back (product_of back t.toxicity.rfdi p.factors.exposure.bw) (num 365000000 2994) →
-      Stands three_width a (named_below dir p t (RfDi ∷ BW ∷ Days ∷ []))
-  inhaled {back} b e = stands_turned dir back b (input ready RfDi) (input ready BW) (input ready Days) (lit≤ tt) e
-
   intake : {a b : Number} → Air dir p t b → a ≡ product_of dir (product_of dir p.factors.contact.ira b) p.factors.exposure.ef → Stands 116 a (named dir p t (IRA ∷ B ∷ EF ∷ []))
   intake air e = stands_mul3 dir (input ready IRA) air.stands (input ready EF) (lit≤ tt) e
 
@@ -39,16 +29,18 @@ product3-inhaled-requires c = let r = middle c.args.self.ready in (r RfDi, (r BW
 
 pub div-requires : goal.div-requires
 div-requires c =
-    let divisor = oral c.args.self.ready c.opposite-back.ensures c.product3-oral.ensures.0 in
-    ((stands_operand (lit≤ tt) c.args.self.ready.prepared.soil_intake).range, (stands_operand (lit≤ tt) divisor).range)
+    let ready = c.args.self.ready in
+    let divisor = three_below ready RfDo BW Days c.opposite-back.ensures c.product3-oral.ensures.0 in
+    ((stands_operand (lit≤ tt) ready.prepared.soil_intake).range, (stands_operand (lit≤ tt) divisor).range)
 
 pub product3-requires : goal.product3-requires
 product3-requires c = let r = middle c.args.self.ready in (r IRA, (stands_middle (lit≤ tt) c.requires.stands, r EF))
 
 pub div-requires-2 : goal.div-requires-2
 div-requires-2 c =
-    let dividend = intake c.args.self.ready c.requires c.product3.ensures.0 in
-    let divisor = inhaled c.args.self.ready c.opposite-back.ensures c.product3-inhaled.ensures.0 in
+    let ready = c.args.self.ready in
+    let dividend = intake ready c.requires c.product3.ensures.0 in
+    let divisor = three_below ready RfDi BW Days c.opposite-back.ensures c.product3-inhaled.ensures.0 in
     ((stands_operand (lit≤ tt) dividend).range, (stands_operand (lit≤ tt) divisor).range)
 
 pub returns : goal.returns
@@ -56,8 +48,8 @@ unfolding number_values derived pathways_of table
 returns c =
     let ready = c.args.self.ready in
     let dir = c.args.self.dir in
-    let swallowed = oral ready c.opposite-back.ensures c.product3-oral.ensures.0 in
-    let breathed = inhaled ready c.opposite-back.ensures c.product3-inhaled.ensures.0 in
+    let swallowed = three_below ready RfDo BW Days c.opposite-back.ensures c.product3-oral.ensures.0 in
+    let breathed = three_below ready RfDi BW Days c.opposite-back.ensures c.product3-inhaled.ensures.0 in
     let taken = intake ready c.requires c.product3.ensures.0 in
     record {
       first = side_term ready 1 1 Hazard 0 (lit≤ tt) (stands_div dir ready.prepared.soil_intake swallowed (lit≤ tt) c.div.ensures.0);

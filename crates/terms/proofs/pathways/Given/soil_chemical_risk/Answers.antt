@@ -4,7 +4,6 @@ use lib.Dec.{lit≤}
 use Rattle.rounding.specs.declared.Direction.{Direction}
 use Rattle.rounding.specs.declared.Number.{Number}
 use Rattle.rounding.specs.Operations.{product_of}
-use Rattle.inputs.specs.Limits.{three_width}
 use Rattle.formulas.specs.Side.{Risk}
 use Rattle.formulas.specs.Formula.{B, Millionth, EF, ED, IR, IRA, SFo, SFi, table, pathways_of, derived}
 use Rattle.factors.specs.declared.numbers.ContaminantNumbers.{ContaminantNumbers}
@@ -12,25 +11,14 @@ use Rattle.factors.specs.declared.prepared.Prepared.{Prepared}
 use Rattle.factors.specs.Stands.{Stands}
 use Rattle.terms.specs.Side.{number_values, Ready, Air}
 use Rattle.factors.proofs.StandsLaws.{zero_stands, stands_div, stands_middle, stands_mul3, stands_operand}
-use Rattle.factors.proofs.Constants.{num}
 use Rattle.terms.proofs.NumberValues.{named, input, middle, side_term}
+use Rattle.terms.proofs.Products.{three_inputs, two_more}
 use Rattle.terms.proofs.pathways.Given.soil_chemical_risk.Goals as goal
 
--- ---- what the code multiplies
+-- ---- what the code multiplies by B
 module _ {dir : Direction} {p : Prepared} {t : ContaminantNumbers} (ready : Ready dir p t) where
-  oral3 : {a : Number} → a ≡ product_of dir (product_of dir t.toxicity.sfo p.factors.contact.ir) (num 100000000 2986) → Stands three_width a (named dir p t (SFo ∷ IR ∷ Millionth ∷ []))
-  oral3 e = stands_mul3 dir (input ready SFo) (input ready IR) (input ready Millionth) (lit≤ tt) e
-
-  oral : {a b : Number} → a ≡ product_of dir (product_of dir t.toxicity.sfo p.factors.contact.ir) (num 100000000 2986) →
-      b ≡ product_of dir (product_of dir a p.factors.exposure.ef) p.factors.exposure.ed → Stands 144 b (named dir p t (SFo ∷ IR ∷ Millionth ∷ EF ∷ ED ∷ []))
-  oral e g = stands_mul3 dir (oral3 e) (input ready EF) (input ready ED) (lit≤ tt) g
-
   inhaled3 : {a b : Number} → Air dir p t b → a ≡ product_of dir (product_of dir t.toxicity.sfi p.factors.contact.ira) b → Stands 116 a (named dir p t (SFi ∷ IRA ∷ B ∷ []))
   inhaled3 air e = stands_mul3 dir (input ready SFi) (input ready IRA) air.stands (lit≤ tt) e
-
-  inhaled : {a b d : Number} → Air dir p t b → a ≡ product_of dir (product_of dir t.toxicity.sfi p.factors.contact.ira) b →
-      d ≡ product_of dir (product_of dir a p.factors.exposure.ef) p.factors.exposure.ed → Stands 174 d (named dir p t (SFi ∷ IRA ∷ B ∷ EF ∷ ED ∷ []))
-  inhaled air e g = stands_mul3 dir (inhaled3 air e) (input ready EF) (input ready ED) (lit≤ tt) g
 
 -- ---- what it may multiply and divide
 pub product3-requires : goal.product3-requires
@@ -38,8 +26,9 @@ product3-requires c = let r = middle c.args.self.ready in (r SFo, (r IR, r Milli
 
 pub product3-swallowed-requires : goal.product3-swallowed-requires
 product3-swallowed-requires c =
-    let r = middle c.args.self.ready in
-    (stands_middle (lit≤ tt) (oral3 c.args.self.ready c.product3.ensures.0), (r EF, r ED))
+    let ready = c.args.self.ready in
+    let r = middle ready in
+    (stands_middle (lit≤ tt) (three_inputs ready SFo IR Millionth c.product3.ensures.0), (r EF, r ED))
 
 pub product3-requires-2 : goal.product3-requires-2
 product3-requires-2 c =
@@ -48,26 +37,29 @@ product3-requires-2 c =
 
 pub product3-inhaled-requires : goal.product3-inhaled-requires
 product3-inhaled-requires c =
-    let r = middle c.args.self.ready in
-    (stands_middle (lit≤ tt) (inhaled3 c.args.self.ready c.requires c.product3-2.ensures.0), (r EF, r ED))
+    let ready = c.args.self.ready in
+    let r = middle ready in
+    (stands_middle (lit≤ tt) (inhaled3 ready c.requires c.product3-2.ensures.0), (r EF, r ED))
 
 pub div-requires : goal.div-requires
 div-requires c =
-    let dividend = oral c.args.self.ready c.product3.ensures.0 c.product3-swallowed.ensures.0 in
-    ((stands_operand (lit≤ tt) dividend).range, (stands_operand (lit≤ tt) c.args.self.ready.prepared.lifetime).range)
+    let ready = c.args.self.ready in
+    let dividend = two_more ready EF ED (three_inputs ready SFo IR Millionth c.product3.ensures.0) (lit≤ tt) c.product3-swallowed.ensures.0 in
+    ((stands_operand (lit≤ tt) dividend).range, (stands_operand (lit≤ tt) ready.prepared.lifetime).range)
 
 pub div-requires-2 : goal.div-requires-2
 div-requires-2 c =
-    let dividend = inhaled c.args.self.ready c.requires c.product3-2.ensures.0 c.product3-inhaled.ensures.0 in
-    ((stands_operand (lit≤ tt) dividend).range, (stands_operand (lit≤ tt) c.args.self.ready.prepared.lifetime).range)
+    let ready = c.args.self.ready in
+    let dividend = two_more ready EF ED (inhaled3 ready c.requires c.product3-2.ensures.0) (lit≤ tt) c.product3-inhaled.ensures.0 in
+    ((stands_operand (lit≤ tt) dividend).range, (stands_operand (lit≤ tt) ready.prepared.lifetime).range)
 
 pub returns : goal.returns
 unfolding number_values derived pathways_of table
 returns c =
     let ready = c.args.self.ready in
     let dir = c.args.self.dir in
-    let swallowed = oral ready c.product3.ensures.0 c.product3-swallowed.ensures.0 in
-    let breathed = inhaled ready c.requires c.product3-2.ensures.0 c.product3-inhaled.ensures.0 in
+    let swallowed = two_more ready EF ED (three_inputs ready SFo IR Millionth c.product3.ensures.0) (lit≤ tt) c.product3-swallowed.ensures.0 in
+    let breathed = two_more ready EF ED (inhaled3 ready c.requires c.product3-2.ensures.0) (lit≤ tt) c.product3-inhaled.ensures.0 in
     record {
       first = side_term ready 1 1 Risk 0 (lit≤ tt) (stands_div dir swallowed ready.prepared.lifetime (lit≤ tt) c.div.ensures.0);
       second = side_term ready 1 1 Risk 1 (lit≤ tt) (stands_div dir breathed ready.prepared.lifetime (lit≤ tt) c.div-2.ensures.0);

@@ -1,0 +1,44 @@
+// The media and the classes of contaminants.
+ghost use Rattle.std.specs.Prelude.{◌≡◌};
+ghost use Rattle.inputs.specs.Kinds.{medium_number, class_number};
+ghost use Rattle.inputs.specs.Rules.{OneOrTwo};
+
+// What a header's medium stands for: 1 soil, 2 water.
+#[derive(Clone, Copy)]
+pub enum Medium {
+    Soil,
+    Water,
+}
+
+// What a contaminant's class stands for: 1 chemical, 2 radionuclide.
+#[derive(Clone, Copy)]
+pub enum Class {
+    Chemical,
+    Radionuclide,
+}
+
+impl Medium {
+    // The medium of a number that keeps its rule.
+    pub fn of(n: u32) -> Medium
+        requires { OneOrTwo n }
+        ensures { medium_number result ≡ n }
+    {
+        if n == 1 {
+            return Medium::Soil;
+        }
+        Medium::Water
+    }
+}
+
+impl Class {
+    // The class of a number that keeps its rule.
+    pub fn of(n: u32) -> Class
+        requires { OneOrTwo n }
+        ensures { class_number result ≡ n }
+    {
+        if n == 2 {
+            return Class::Radionuclide;
+        }
+        Class::Chemical
+    }
+}

@@ -1,0 +1,46 @@
+-- Products of inputs by their names: of two, of three, of a product with two more, and of three after the stroke. Assumes nothing.
+use mathlib.Core.Path.{◌≡◌}
+use mathlib.Core.List.{[], ◌∷◌}
+use Prim.Native.Nat.{ℕ, ◌+◌, ◌-◌, ◌≤◌}
+use lib.Dec.{lit≤}
+use lib.ListN.{get_or}
+use Rattle.rounding.specs.declared.Direction.{Direction}
+use Rattle.rounding.specs.declared.Number.{Number}
+use Rattle.rounding.specs.Direction.{opposite}
+use Rattle.rounding.specs.Operations.{product_of}
+use Rattle.inputs.specs.Limits.{input_width, two_width, three_width}
+use Rattle.decimal.specs.declared.Decimal.{Decimal}
+use Rattle.decimal.specs.Decimal.{mul_of}
+use Rattle.formulas.specs.Formula.{derived_places}
+use Rattle.formulas.specs.Term.{look}
+use Rattle.factors.specs.declared.numbers.ContaminantNumbers.{ContaminantNumbers}
+use Rattle.factors.specs.declared.prepared.Prepared.{Prepared}
+use Rattle.factors.specs.Stands.{Stands}
+use Rattle.factors.proofs.StandsLaws.{no_number, stands_mul, stands_mul3}
+use Rattle.terms.specs.Side.{number_values, Ready}
+use Rattle.terms.proofs.NumberValues.{behind, numbers, named, named_below, input, stands_turned}
+
+-- the place of a name in the values
+abbrev pub place : ℕ → ℕ
+place n = behind derived_places (n - derived_places)
+
+module _ {dir : Direction} {p : Prepared} {t : ContaminantNumbers} (ready : Ready dir p t) where
+  -- the number of a name
+  abbrev pub number : ℕ → Number
+  number n = get_or (numbers p.factors t) (n - derived_places) no_number
+
+  pub two_inputs : (m n : ℕ) {a : Number} → a ≡ product_of dir (number m) (number n) → Stands two_width a (named dir p t (place m ∷ place n ∷ []))
+  two_inputs m n e = stands_mul dir (input ready m) (input ready n) (lit≤ tt) e
+
+  pub three_inputs : (m n k : ℕ) {a : Number} → a ≡ product_of dir (product_of dir (number m) (number n)) (number k) →
+      Stands three_width a (named dir p t (place m ∷ place n ∷ place k ∷ []))
+  three_inputs m n k e = stands_mul3 dir (input ready m) (input ready n) (input ready k) (lit≤ tt) e
+
+  pub two_more : (m n : ℕ) {w : ℕ} {a b : Number} {d : Decimal} → Stands w a d → w + input_width + input_width ≤ 970 → b ≡ product_of dir (product_of dir a (number m)) (number n) →
+      Stands (w + input_width + input_width + 2) b
+      (mul_of (mul_of d (look (number_values dir p.factors t) (place m)) dir) (look (number_values dir p.factors t) (place n)) dir)
+  two_more m n s h e = stands_mul3 dir s (input ready m) (input ready n) h e
+
+  pub three_below : (m n k : ℕ) {back : Direction} {a : Number} → back ≡ opposite dir → a ≡ product_of back (product_of back (number m) (number n)) (number k) →
+      Stands three_width a (named_below dir p t (place m ∷ place n ∷ place k ∷ []))
+  three_below m n k {back} b e = stands_turned dir back b (input ready m) (input ready n) (input ready k) (lit≤ tt) e
