@@ -1,4 +1,5 @@
--- Products of inputs by their names: of two, of three, of a product with two more, and of three after the stroke. Assumes nothing.
+-- Products of inputs by their names: of two, of three, of a product with two more, and of three after the stroke; and that what is multiplied or
+-- divided is in range for it. Assumes nothing.
 use mathlib.Core.Path.{◌≡◌}
 use mathlib.Core.List.{[], ◌∷◌}
 use Prim.Native.Nat.{ℕ, ◌+◌, ◌-◌, ◌≤◌}
@@ -8,7 +9,8 @@ use Rattle.rounding.specs.declared.Direction.{Direction}
 use Rattle.rounding.specs.declared.Number.{Number}
 use Rattle.rounding.specs.Direction.{opposite}
 use Rattle.rounding.specs.Operations.{product_of}
-use Rattle.inputs.specs.Limits.{input_width, two_width, three_width}
+use Rattle.rounding.specs.Number.{InRange}
+use Rattle.inputs.specs.Limits.{input_width, two_width, three_width, middle_width}
 use Rattle.decimal.specs.declared.Decimal.{Decimal}
 use Rattle.decimal.specs.Decimal.{mul_of}
 use Rattle.formulas.specs.Formula.{derived_places}
@@ -16,9 +18,10 @@ use Rattle.formulas.specs.Term.{look}
 use Rattle.factors.specs.declared.numbers.ContaminantNumbers.{ContaminantNumbers}
 use Rattle.factors.specs.declared.prepared.Prepared.{Prepared}
 use Rattle.factors.specs.Stands.{Stands}
-use Rattle.factors.proofs.StandsLaws.{no_number, stands_mul, stands_mul3}
+use Rattle.factors.specs.Prepared.{Middle}
+use Rattle.factors.proofs.StandsLaws.{no_number, stands_mul, stands_mul3, stands_middle, stands_operand}
 use Rattle.terms.specs.Side.{number_values, Ready}
-use Rattle.terms.proofs.NumberValues.{behind, numbers, named, named_below, input, stands_turned}
+use Rattle.terms.proofs.NumberValues.{behind, numbers, named, named_below, input, middle, stands_turned}
 
 -- the place of a name in the values
 abbrev pub place : ℕ → ℕ
@@ -44,3 +47,14 @@ module _ {dir : Direction} {p : Prepared} {t : ContaminantNumbers} (ready : Read
   pub three_below : (m n k : ℕ) {back : Direction} {a : Number} → back ≡ opposite dir → a ≡ product_of back (product_of back (number m) (number n)) (number k) →
       Stands three_width a (named_below dir p t (place m ∷ place n ∷ place k ∷ []))
   three_below m n k {back} b e = stands_turned dir back b (input ready m) (input ready n) (input ready k) (lit≤ tt) e
+
+  -- ---- what may be multiplied so
+  pub three_fit : (m n k : ℕ) → Middle (number m) × (Middle (number n) × Middle (number k))
+  three_fit m n k = let r = middle ready in (r m, (r n, r k))
+
+  pub two_more_fit : (m n : ℕ) {w : ℕ} {a : Number} {d : Decimal} → Stands w a d → w ≤ middle_width → Middle a × (Middle (number m) × Middle (number n))
+  two_more_fit m n s h = let r = middle ready in (stands_middle h s, (r m, r n))
+
+-- and divided
+pub quotient_fits : {v w : ℕ} {a b : Number} {d e : Decimal} → Stands v a d → v ≤ 990 → Stands w b e → w ≤ 990 → InRange a × InRange b
+quotient_fits s h t g = ((stands_operand h s).range, (stands_operand g t).range)

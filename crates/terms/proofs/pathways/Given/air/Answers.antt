@@ -8,8 +8,9 @@ use Rattle.formulas.specs.Formula.{B, One, VF}
 use Rattle.formulas.specs.Term.{look}
 use Rattle.factors.specs.Stands.{Stands}
 use Rattle.terms.specs.Side.{number_values}
-use Rattle.factors.proofs.StandsLaws.{stands_div, stands_operand}
+use Rattle.factors.proofs.StandsLaws.{stands_div}
 use Rattle.terms.proofs.NumberValues.{input, range, air_number, air_stands}
+use Rattle.terms.proofs.Products.{quotient_fits}
 use Rattle.terms.proofs.pathways.Given.air.Goals as goal
 
 pub div-requires : goal.div-requires
@@ -20,7 +21,7 @@ add-requires c =
     let ready = c.args.self.ready in
     let r = input ready in
     let quotient = stands_div c.args.self.dir (r One) (r VF) (lit≤ tt) c.div.ensures.0 in
-    ((stands_operand (lit≤ tt) quotient).range, (stands_operand (lit≤ tt) ready.prepared.inverse_pef).range)
+    quotient_fits quotient (lit≤ tt) ready.prepared.inverse_pef (lit≤ tt)
 
 pub returns : goal.returns
 unfolding air_number

@@ -10,9 +10,9 @@ use Rattle.factors.specs.declared.numbers.ContaminantNumbers.{ContaminantNumbers
 use Rattle.factors.specs.declared.prepared.Prepared.{Prepared}
 use Rattle.factors.specs.Stands.{Stands}
 use Rattle.terms.specs.Side.{number_values, Ready, Air}
-use Rattle.factors.proofs.StandsLaws.{zero_stands, stands_div, stands_middle, stands_mul3, stands_operand}
+use Rattle.factors.proofs.StandsLaws.{zero_stands, stands_div, stands_middle, stands_mul3}
 use Rattle.terms.proofs.NumberValues.{named, input, middle, side_term}
-use Rattle.terms.proofs.Products.{three_below}
+use Rattle.terms.proofs.Products.{three_below, three_fit, quotient_fits}
 use Rattle.terms.proofs.pathways.Given.soil_chemical_hazard.Goals as goal
 
 -- ---- what the code multiplies by B
@@ -22,16 +22,16 @@ module _ {dir : Direction} {p : Prepared} {t : ContaminantNumbers} (ready : Read
 
 -- ---- what it may multiply and divide
 pub product3-oral-requires : goal.product3-oral-requires
-product3-oral-requires c = let r = middle c.args.self.ready in (r RfDo, (r BW, r Days))
+product3-oral-requires c = three_fit c.args.self.ready RfDo BW Days
 
 pub product3-inhaled-requires : goal.product3-inhaled-requires
-product3-inhaled-requires c = let r = middle c.args.self.ready in (r RfDi, (r BW, r Days))
+product3-inhaled-requires c = three_fit c.args.self.ready RfDi BW Days
 
 pub div-requires : goal.div-requires
 div-requires c =
     let ready = c.args.self.ready in
     let divisor = three_below ready RfDo BW Days c.opposite-back.ensures c.product3-oral.ensures.0 in
-    ((stands_operand (lit≤ tt) ready.prepared.soil_intake).range, (stands_operand (lit≤ tt) divisor).range)
+    quotient_fits ready.prepared.soil_intake (lit≤ tt) divisor (lit≤ tt)
 
 pub product3-requires : goal.product3-requires
 product3-requires c = let r = middle c.args.self.ready in (r IRA, (stands_middle (lit≤ tt) c.requires.stands, r EF))
@@ -41,7 +41,7 @@ div-requires-2 c =
     let ready = c.args.self.ready in
     let dividend = intake ready c.requires c.product3.ensures.0 in
     let divisor = three_below ready RfDi BW Days c.opposite-back.ensures c.product3-inhaled.ensures.0 in
-    ((stands_operand (lit≤ tt) dividend).range, (stands_operand (lit≤ tt) divisor).range)
+    quotient_fits dividend (lit≤ tt) divisor (lit≤ tt)
 
 pub returns : goal.returns
 unfolding number_values derived pathways_of table

@@ -10,9 +10,9 @@ use Rattle.factors.specs.declared.numbers.ContaminantNumbers.{ContaminantNumbers
 use Rattle.factors.specs.declared.prepared.Prepared.{Prepared}
 use Rattle.factors.specs.Stands.{Stands}
 use Rattle.terms.specs.Side.{number_values, Ready, Air}
-use Rattle.factors.proofs.StandsLaws.{zero_stands, stands_div, stands_middle, stands_mul3, stands_operand}
+use Rattle.factors.proofs.StandsLaws.{zero_stands, stands_div, stands_middle, stands_mul3}
 use Rattle.terms.proofs.NumberValues.{named, input, middle, side_term}
-use Rattle.terms.proofs.Products.{three_inputs, two_more}
+use Rattle.terms.proofs.Products.{three_inputs, two_more, three_fit, two_more_fit, quotient_fits}
 use Rattle.terms.proofs.pathways.Given.soil_chemical_risk.Goals as goal
 
 -- ---- what the code multiplies by B
@@ -22,13 +22,12 @@ module _ {dir : Direction} {p : Prepared} {t : ContaminantNumbers} (ready : Read
 
 -- ---- what it may multiply and divide
 pub product3-requires : goal.product3-requires
-product3-requires c = let r = middle c.args.self.ready in (r SFo, (r IR, r Millionth))
+product3-requires c = three_fit c.args.self.ready SFo IR Millionth
 
 pub product3-swallowed-requires : goal.product3-swallowed-requires
 product3-swallowed-requires c =
     let ready = c.args.self.ready in
-    let r = middle ready in
-    (stands_middle (lit≤ tt) (three_inputs ready SFo IR Millionth c.product3.ensures.0), (r EF, r ED))
+    two_more_fit ready EF ED (three_inputs ready SFo IR Millionth c.product3.ensures.0) (lit≤ tt)
 
 pub product3-requires-2 : goal.product3-requires-2
 product3-requires-2 c =
@@ -38,20 +37,19 @@ product3-requires-2 c =
 pub product3-inhaled-requires : goal.product3-inhaled-requires
 product3-inhaled-requires c =
     let ready = c.args.self.ready in
-    let r = middle ready in
-    (stands_middle (lit≤ tt) (inhaled3 ready c.requires c.product3-2.ensures.0), (r EF, r ED))
+    two_more_fit ready EF ED (inhaled3 ready c.requires c.product3-2.ensures.0) (lit≤ tt)
 
 pub div-requires : goal.div-requires
 div-requires c =
     let ready = c.args.self.ready in
     let dividend = two_more ready EF ED (three_inputs ready SFo IR Millionth c.product3.ensures.0) (lit≤ tt) c.product3-swallowed.ensures.0 in
-    ((stands_operand (lit≤ tt) dividend).range, (stands_operand (lit≤ tt) ready.prepared.lifetime).range)
+    quotient_fits dividend (lit≤ tt) ready.prepared.lifetime (lit≤ tt)
 
 pub div-requires-2 : goal.div-requires-2
 div-requires-2 c =
     let ready = c.args.self.ready in
     let dividend = two_more ready EF ED (inhaled3 ready c.requires c.product3-2.ensures.0) (lit≤ tt) c.product3-inhaled.ensures.0 in
-    ((stands_operand (lit≤ tt) dividend).range, (stands_operand (lit≤ tt) ready.prepared.lifetime).range)
+    quotient_fits dividend (lit≤ tt) ready.prepared.lifetime (lit≤ tt)
 
 pub returns : goal.returns
 unfolding number_values derived pathways_of table

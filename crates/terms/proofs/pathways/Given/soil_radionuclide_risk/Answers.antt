@@ -10,10 +10,10 @@ use Rattle.factors.specs.declared.numbers.ContaminantNumbers.{ContaminantNumbers
 use Rattle.factors.specs.declared.prepared.Prepared.{Prepared}
 use Rattle.factors.specs.Stands.{Stands}
 use Rattle.terms.specs.Side.{number_values, Ready}
-use Rattle.factors.proofs.StandsLaws.{stands_div, stands_middle, stands_mul, stands_operand}
+use Rattle.factors.proofs.StandsLaws.{stands_div, stands_mul, stands_operand}
 use Rattle.factors.proofs.Constants.{num}
-use Rattle.terms.proofs.NumberValues.{named, input, middle, range, side_term}
-use Rattle.terms.proofs.Products.{two_inputs, three_inputs, two_more}
+use Rattle.terms.proofs.NumberValues.{named, input, range, side_term}
+use Rattle.terms.proofs.Products.{two_inputs, three_inputs, two_more, three_fit, two_more_fit}
 use Rattle.terms.proofs.pathways.Given.soil_radionuclide_risk.Goals as goal
 
 -- ---- what the code multiplies by 0.000114
@@ -29,11 +29,10 @@ mul-requires c = let r = range c.args.self.ready in (r SFi, r IRA)
 pub product3-inhaled-requires : goal.product3-inhaled-requires
 product3-inhaled-requires c =
     let ready = c.args.self.ready in
-    let r = middle ready in
-    (stands_middle (lit≤ tt) (two_inputs ready SFi IRA c.mul.ensures.0), (r EF, r ED))
+    two_more_fit ready EF ED (two_inputs ready SFi IRA c.mul.ensures.0) (lit≤ tt)
 
 pub product3-requires : goal.product3-requires
-product3-requires c = let r = middle c.args.self.ready in (r SFx, (r ET, r RF))
+product3-requires c = three_fit c.args.self.ready SFx ET RF
 
 pub mul-outdoors-requires : goal.mul-outdoors-requires
 mul-outdoors-requires c =
@@ -42,13 +41,12 @@ mul-outdoors-requires c =
     ((stands_operand (lit≤ tt) (three_inputs ready SFx ET RF c.product3.ensures.0)).range, r YearsPerHour)
 
 pub product3-requires-2 : goal.product3-requires-2
-product3-requires-2 c = let r = middle c.args.self.ready in (r SFo, (r IR, r Millionth))
+product3-requires-2 c = three_fit c.args.self.ready SFo IR Millionth
 
 pub product3-requires-3 : goal.product3-requires-3
 product3-requires-3 c =
     let ready = c.args.self.ready in
-    let r = middle ready in
-    (stands_middle (lit≤ tt) (three_inputs ready SFo IR Millionth c.product3-2.ensures.0), (r EF, r ED))
+    two_more_fit ready EF ED (three_inputs ready SFo IR Millionth c.product3-2.ensures.0) (lit≤ tt)
 
 pub div-requires : goal.div-requires
 div-requires c =
@@ -59,8 +57,7 @@ div-requires c =
 pub product3-requires-4 : goal.product3-requires-4
 product3-requires-4 c =
     let ready = c.args.self.ready in
-    let r = middle ready in
-    (stands_middle (lit≤ tt) (outdoors4 ready c.product3.ensures.0 c.mul-outdoors.ensures.0), (r EF, r ED))
+    two_more_fit ready EF ED (outdoors4 ready c.product3.ensures.0 c.mul-outdoors.ensures.0) (lit≤ tt)
 
 pub returns : goal.returns
 unfolding number_values derived pathways_of table

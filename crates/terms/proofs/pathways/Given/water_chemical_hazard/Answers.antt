@@ -3,45 +3,44 @@ use lib.Dec.{lit≤}
 use Rattle.formulas.specs.Side.{Hazard}
 use Rattle.formulas.specs.Formula.{Thousandth, Days, EF, BW, ET, SA, RfDo, RfDi, PC, table, pathways_of, derived}
 use Rattle.terms.specs.Side.{number_values}
-use Rattle.factors.proofs.StandsLaws.{stands_div, stands_middle, stands_operand}
-use Rattle.terms.proofs.NumberValues.{middle, side_term}
-use Rattle.terms.proofs.Products.{three_inputs, two_more, three_below}
+use Rattle.factors.proofs.StandsLaws.{stands_div}
+use Rattle.terms.proofs.NumberValues.{side_term}
+use Rattle.terms.proofs.Products.{three_inputs, two_more, three_below, three_fit, two_more_fit, quotient_fits}
 use Rattle.terms.proofs.pathways.Given.water_chemical_hazard.Goals as goal
 
 -- ---- what it may multiply and divide
 pub product3-oral-requires : goal.product3-oral-requires
-product3-oral-requires c = let r = middle c.args.self.ready in (r RfDo, (r BW, r Days))
+product3-oral-requires c = three_fit c.args.self.ready RfDo BW Days
 
 pub product3-inhaled-requires : goal.product3-inhaled-requires
-product3-inhaled-requires c = let r = middle c.args.self.ready in (r RfDi, (r BW, r Days))
+product3-inhaled-requires c = three_fit c.args.self.ready RfDi BW Days
 
 pub product3-requires : goal.product3-requires
-product3-requires c = let r = middle c.args.self.ready in (r SA, (r PC, r ET))
+product3-requires c = three_fit c.args.self.ready SA PC ET
 
 pub product3-absorbed-requires : goal.product3-absorbed-requires
 product3-absorbed-requires c =
     let ready = c.args.self.ready in
-    let r = middle ready in
-    (stands_middle (lit≤ tt) (three_inputs ready SA PC ET c.product3.ensures.0), (r Thousandth, r EF))
+    two_more_fit ready Thousandth EF (three_inputs ready SA PC ET c.product3.ensures.0) (lit≤ tt)
 
 pub div-requires : goal.div-requires
 div-requires c =
     let ready = c.args.self.ready in
     let divisor = three_below ready RfDo BW Days c.opposite-back.ensures c.product3-oral.ensures.0 in
-    ((stands_operand (lit≤ tt) ready.prepared.water_intake).range, (stands_operand (lit≤ tt) divisor).range)
+    quotient_fits ready.prepared.water_intake (lit≤ tt) divisor (lit≤ tt)
 
 pub div-requires-2 : goal.div-requires-2
 div-requires-2 c =
     let ready = c.args.self.ready in
     let divisor = three_below ready RfDi BW Days c.opposite-back.ensures c.product3-inhaled.ensures.0 in
-    ((stands_operand (lit≤ tt) ready.prepared.vapour_intake).range, (stands_operand (lit≤ tt) divisor).range)
+    quotient_fits ready.prepared.vapour_intake (lit≤ tt) divisor (lit≤ tt)
 
 pub div-requires-3 : goal.div-requires-3
 div-requires-3 c =
     let ready = c.args.self.ready in
     let dividend = two_more ready Thousandth EF (three_inputs ready SA PC ET c.product3.ensures.0) (lit≤ tt) c.product3-absorbed.ensures.0 in
     let divisor = three_below ready RfDo BW Days c.opposite-back.ensures c.product3-oral.ensures.0 in
-    ((stands_operand (lit≤ tt) dividend).range, (stands_operand (lit≤ tt) divisor).range)
+    quotient_fits dividend (lit≤ tt) divisor (lit≤ tt)
 
 pub returns : goal.returns
 unfolding number_values derived pathways_of table

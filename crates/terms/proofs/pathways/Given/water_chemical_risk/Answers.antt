@@ -3,9 +3,9 @@ use lib.Dec.{lit≤}
 use Rattle.formulas.specs.Side.{Risk}
 use Rattle.formulas.specs.Formula.{Thousandth, Half, EF, ED, IR, IRA, ET, SA, SFo, SFi, PC, table, pathways_of, derived}
 use Rattle.terms.specs.Side.{number_values}
-use Rattle.factors.proofs.StandsLaws.{stands_div, stands_middle, stands_operand}
-use Rattle.terms.proofs.NumberValues.{middle, range, side_term}
-use Rattle.terms.proofs.Products.{two_inputs, three_inputs, two_more}
+use Rattle.factors.proofs.StandsLaws.{stands_div}
+use Rattle.terms.proofs.NumberValues.{range, side_term}
+use Rattle.terms.proofs.Products.{two_inputs, three_inputs, two_more, three_fit, two_more_fit, quotient_fits}
 use Rattle.terms.proofs.pathways.Given.water_chemical_risk.Goals as goal
 
 -- ---- what it may multiply and divide
@@ -15,51 +15,47 @@ mul-requires c = let r = range c.args.self.ready in (r SFo, r IR)
 pub product3-swallowed-requires : goal.product3-swallowed-requires
 product3-swallowed-requires c =
     let ready = c.args.self.ready in
-    let r = middle ready in
-    (stands_middle (lit≤ tt) (two_inputs ready SFo IR c.mul.ensures.0), (r EF, r ED))
+    two_more_fit ready EF ED (two_inputs ready SFo IR c.mul.ensures.0) (lit≤ tt)
 
 pub product3-requires : goal.product3-requires
-product3-requires c = let r = middle c.args.self.ready in (r SFi, (r IRA, r Half))
+product3-requires c = three_fit c.args.self.ready SFi IRA Half
 
 pub product3-inhaled-requires : goal.product3-inhaled-requires
 product3-inhaled-requires c =
     let ready = c.args.self.ready in
-    let r = middle ready in
-    (stands_middle (lit≤ tt) (three_inputs ready SFi IRA Half c.product3.ensures.0), (r EF, r ED))
+    two_more_fit ready EF ED (three_inputs ready SFi IRA Half c.product3.ensures.0) (lit≤ tt)
 
 pub product3-requires-2 : goal.product3-requires-2
-product3-requires-2 c = let r = middle c.args.self.ready in (r SFo, (r SA, r PC))
+product3-requires-2 c = three_fit c.args.self.ready SFo SA PC
 
 pub product3-wet-requires : goal.product3-wet-requires
 product3-wet-requires c =
     let ready = c.args.self.ready in
-    let r = middle ready in
-    (stands_middle (lit≤ tt) (three_inputs ready SFo SA PC c.product3-2.ensures.0), (r ET, r Thousandth))
+    two_more_fit ready ET Thousandth (three_inputs ready SFo SA PC c.product3-2.ensures.0) (lit≤ tt)
 
 pub product3-absorbed-requires : goal.product3-absorbed-requires
 product3-absorbed-requires c =
     let ready = c.args.self.ready in
-    let r = middle ready in
-    (stands_middle (lit≤ tt) (two_more ready ET Thousandth (three_inputs ready SFo SA PC c.product3-2.ensures.0) (lit≤ tt) c.product3-wet.ensures.0), (r EF, r ED))
+    two_more_fit ready EF ED (two_more ready ET Thousandth (three_inputs ready SFo SA PC c.product3-2.ensures.0) (lit≤ tt) c.product3-wet.ensures.0) (lit≤ tt)
 
 pub div-requires : goal.div-requires
 div-requires c =
     let ready = c.args.self.ready in
     let dividend = two_more ready EF ED (two_inputs ready SFo IR c.mul.ensures.0) (lit≤ tt) c.product3-swallowed.ensures.0 in
-    ((stands_operand (lit≤ tt) dividend).range, (stands_operand (lit≤ tt) ready.prepared.lifetime).range)
+    quotient_fits dividend (lit≤ tt) ready.prepared.lifetime (lit≤ tt)
 
 pub div-requires-2 : goal.div-requires-2
 div-requires-2 c =
     let ready = c.args.self.ready in
     let dividend = two_more ready EF ED (three_inputs ready SFi IRA Half c.product3.ensures.0) (lit≤ tt) c.product3-inhaled.ensures.0 in
-    ((stands_operand (lit≤ tt) dividend).range, (stands_operand (lit≤ tt) ready.prepared.lifetime).range)
+    quotient_fits dividend (lit≤ tt) ready.prepared.lifetime (lit≤ tt)
 
 pub div-requires-3 : goal.div-requires-3
 div-requires-3 c =
     let ready = c.args.self.ready in
     let wet = two_more ready ET Thousandth (three_inputs ready SFo SA PC c.product3-2.ensures.0) (lit≤ tt) c.product3-wet.ensures.0 in
     let dividend = two_more ready EF ED wet (lit≤ tt) c.product3-absorbed.ensures.0 in
-    ((stands_operand (lit≤ tt) dividend).range, (stands_operand (lit≤ tt) ready.prepared.lifetime).range)
+    quotient_fits dividend (lit≤ tt) ready.prepared.lifetime (lit≤ tt)
 
 pub returns : goal.returns
 unfolding number_values derived pathways_of table

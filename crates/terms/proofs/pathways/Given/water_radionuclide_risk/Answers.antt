@@ -3,9 +3,9 @@ use lib.Dec.{lit≤}
 use Rattle.formulas.specs.Side.{Risk}
 use Rattle.formulas.specs.Formula.{EF, ED, IR, SFo, table, pathways_of, derived}
 use Rattle.terms.specs.Side.{number_values}
-use Rattle.factors.proofs.StandsLaws.{zero_stands, stands_middle}
-use Rattle.terms.proofs.NumberValues.{middle, range, side_term}
-use Rattle.terms.proofs.Products.{two_inputs, two_more}
+use Rattle.factors.proofs.StandsLaws.{zero_stands}
+use Rattle.terms.proofs.NumberValues.{range, side_term}
+use Rattle.terms.proofs.Products.{two_inputs, two_more, two_more_fit}
 use Rattle.terms.proofs.pathways.Given.water_radionuclide_risk.Goals as goal
 
 -- ---- what it may multiply and divide
@@ -15,8 +15,7 @@ mul-requires c = let r = range c.args.self.ready in (r SFo, r IR)
 pub product3-requires : goal.product3-requires
 product3-requires c =
     let ready = c.args.self.ready in
-    let r = middle ready in
-    (stands_middle (lit≤ tt) (two_inputs ready SFo IR c.mul.ensures.0), (r EF, r ED))
+    two_more_fit ready EF ED (two_inputs ready SFo IR c.mul.ensures.0) (lit≤ tt)
 
 pub returns : goal.returns
 unfolding number_values derived pathways_of table
