@@ -11,7 +11,7 @@ use borrow.Author.Tests.{eq-eqb, lt-ltb}
 use Rattle.rounding.specs.declared.Direction.{Direction}
 use Rattle.rounding.specs.declared.Direction.TheVariants.{Down, Up}
 use Rattle.rounding.specs.declared.Number.{Number}
-use Rattle.rounding.specs.Number.{Working, InRange}
+use Rattle.rounding.specs.Number.{Working}
 use Rattle.rounding.specs.Operations.{sum_of}
 use Rattle.decimal.specs.declared.Decimal.{Decimal}
 use Rattle.decimal.specs.Decimal.{zero_of, add_of, div_of, Printable}
@@ -22,8 +22,8 @@ use Rattle.formulas.specs.Formula.{Formula, none}
 use Rattle.formulas.specs.Term.{term_of, total_of}
 use Rattle.inputs.specs.Limits.{input_width, formula_width}
 use Rattle.factors.specs.Stands.{Stands}
-use Rattle.terms.specs.Side.{Wide, WideSide, TotalSize}
-use Rattle.decimal.proofs.Value.{skip_first, skip_next, Inside, value_inside}
+use Rattle.terms.specs.Side.{Wide, WideSide}
+use Rattle.decimal.proofs.Value.{skip_first, skip_next}
 use Rattle.factors.proofs.StandsLaws.{stands_value, stands_is, stands_add, stands_div}
 use Rattle.formulas.proofs.Sound.{three_places}
 use Rattle.guideline.specs.declared.Column.{Column}
@@ -35,15 +35,6 @@ stands_wide h s = record { most = s.most; low = omega (arith, s.low); high = ome
 
 pub stands_printable : {w : ℕ} {r : Number} {d : Decimal} → w ≤ 990 → Stands w r d → Printable r
 stands_printable h s = record { digits = s.most; exponent = omega (arith, s.high) }
-
-pub wide_range : {r : Number} → Wide r → InRange r
-wide_range w = record { most = w.most; low = omega (arith, w.low); high = omega (arith, w.high) }
-
-pub total_range : {r : Number} → TotalSize r → InRange r
-total_range w = record { most = w.most; low = omega (arith, w.low); high = omega (arith, w.high) }
-
-pub stands_inside : {w : ℕ} {r : Number} {d : Decimal} → w ≤ 990 → Stands w r d → Inside d
-stands_inside h s = value_inside (stands_value h s)
 
 pub stands_ranged : {w : ℕ} {r : Number} {d : Decimal} → w ≤ 990 → Stands w r d → ranged_of r ≡ true
 stands_ranged {w} {r} h s = rw (lt-ltb 2000 r.x (omega (arith, s.low)), lt-ltb r.x 4000 (omega (arith, s.high)))

@@ -1,16 +1,12 @@
 -- A site whose blocks were all found: its plan is not refused, its records can be written, and what is written is the answer. Assumes nothing.
-use mathlib.Core.Path.{◌≡◌, sym, ap, ap₂, ◌∙◌}
+use mathlib.Core.Path.{◌≡◌, sym, ap₂, ◌∙◌}
 use mathlib.Core.List.{List}
 use Prim.Native.Nat.{ℕ, ◌≤◌}
-use native.Mathlib.Omega.{arith}
-use lib.ListN.{length, length-append}
+use lib.ListN.{length}
 use Rattle.std.specs.Prelude.{Ok}
 use Rattle.inputs.specs.declared.Scenario.{Scenario}
 use Rattle.words.specs.Bytes.{over}
-use Rattle.words.proofs.Written.{over_length}
 use Rattle.block_rules.specs.declared.Header.{Header}
-use Rattle.block_rules.specs.Layouts.{summary_block}
-use Rattle.block_rules.proofs.ResultsBack.{summary_length}
 use Rattle.shares.specs.declared.plan.Plan.{Plan}
 use Rattle.sum_rules.specs.Answer.{Sums}
 use Rattle.sum_rules.specs.ListCall.{first_refusal}
@@ -18,13 +14,12 @@ use Rattle.shares.specs.Plan.{Planned}
 use Rattle.sums.proofs.Started.{plan_known}
 use Rattle.site_rules.specs.Blocks.{records_from, all_sums}
 use Rattle.site_rules.specs.Site.{site_answer}
-use Rattle.site_rules.specs.Results.{results_to, site_left}
+use Rattle.site_rules.specs.Results.{site_left}
 use Rattle.site.specs.Check.{check_blocks}
 use Rattle.result_blocks.specs.Writing.{Writing, blocks_of}
 use Rattle.site_rules.specs.Passed.{Opened}
-use Rattle.site_rules.proofs.OutputBlocks.{results_long}
 use Rattle.site.proofs.Answers.{checking, checked_records, answer_sums, left_accepted}
-use Rattle.site_rules.proofs.Opened.{count_some, count_most, site_long}
+use Rattle.site_rules.proofs.Opened.{count_some, count_most}
 use Rattle.site_rules.proofs.SameSums.{first_accepted}
 
 -- the plan of a site whose blocks were found is never refused
@@ -51,10 +46,3 @@ module _ {site : List ℕ} {h : Header} {p : Plan} (o : Opened site h) (z : chec
       sums_are ∙ sym (answer_sums o z (length d) room),
       w ∙ ap₂ (λ (s : Scenario) (m : ℕ). over (blocks_of s m site h.count a) d) b.scenario b.media ∙ sym (left_accepted o z d a sums_are room),
     )
-
-    pub left_length : length out ≡ length d
-    left_length =
-        let blocks = blocks_of p.scenario p.medium site h.count a in
-        let n = length-append (summary_block a.risk a.hazard) (results_to p.scenario p.medium site h.count) in
-        let l = results_long p.scenario p.medium site h.count in
-        ap length w ∙ over_length blocks d (omega (arith, n, summary_length a.risk a.hazard, l, site_long o, room))

@@ -1,20 +1,16 @@
 -- Numbers compared by worth: the same as their decimals. Assumes nothing.
 use mathlib.Core.Path.{◌≡◌}
-use Prim.Native.Nat.{ℕ, ◌≤◌, ◌<◌}
+use Prim.Native.Nat.{ℕ, ◌≤◌}
 use native.Mathlib.Omega.{arith}
 use lib.Dec.{lit≤}
 use Rattle.rounding.specs.declared.Number.{Number}
-use Rattle.rounding.specs.Number.{Working, at_most_of as numbers_at_most}
+use Rattle.rounding.specs.Number.{at_most_of as numbers_at_most}
 use Rattle.decimal.specs.Decimal.{decimal_of, Printable, at_most_of}
 use Rattle.decimal.proofs.Laws.{decimal_worth, decimal_operable}
 use Rattle.inputs.specs.Limits.{sum_width}
 use Rattle.factors.proofs.StandsLaws.{stands_operand, stands_most}
 use Rattle.shares.specs.Runs.{Runs}
 use Rattle.sums.specs.State.{Comparable, RunsReady}
-
--- what a comparison of numbers asks
-pub comparable : {r : Number} → Comparable r → Working r × (0 < r.x)
-comparable s = (s.working, omega (arith, s.low))
 
 pub printable : {r : Number} → Comparable r → Printable r
 printable s = record { digits = s.most; exponent = omega (arith, s.high) }

@@ -6,4 +6,4 @@ use Rattle.site.proofs.length_ok.Goals as goal
 
 pub returns : goal.returns
 unfolding length_ok
-returns c = (and_assoc (leb 1024 c.args.n) (leb c.args.n 61952) (eqb (c.args.n % 512) 0))
+returns c = and_assoc (leb 1024 c.args.n) (leb c.args.n 61952) (eqb (c.args.n % 512) 0)

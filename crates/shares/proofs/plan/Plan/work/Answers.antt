@@ -2,11 +2,11 @@
 use Rattle.inputs.proofs.Tests.{contaminant_parts}
 use Rattle.sum_rules.specs.Share.{used_of}
 use Rattle.terms.proofs.SameValues.{ready, terms_at}
-use Rattle.shares.proofs.Plans.{fits_parts, inputs_of_lem}
+use Rattle.shares.proofs.Plans.{inputs_of_lem}
 use Rattle.shares.proofs.plan.Plan.work.Goals as goal
 
 pub of-medium-requires : goal.of-medium-requires
-of-medium-requires c = (fits_parts c.args.self.scenario c.args.self.medium c.args.self.ready.fits).1
+of-medium-requires c = (inputs_of_lem c.requires).media
 
 pub of-class-requires : goal.of-class-requires
 of-class-requires c = (inputs_of_lem c.requires).class
