@@ -1,19 +1,21 @@
-"""Checks the second calculation itself: the figures that the specification marks, and demand 3 on random lists.
+"""Checks the second calculation itself: the figures that the specification marks, the widest exponents, demand 3 on random lists.
 
     python3 tests/check_second.py 300 1        300 lists from seed 1
 
 It runs no Rattle code. Status 1 when anything does not hold.
 """
 import collections
+import itertools
 import random
 import sys
 
 from guideline_records import Case, random_case, random_valid_case
+from second import steps
 from second.decimals import DOWN, UP, ZERO, Decimal, add, divide, keeps_input_rule, multiply, working_form
 from second.guideline import guideline
 from second.promises import sum_faults
 from second.sums import sums
-from second.terms import inputs_of, terms_of
+from second.terms import CONTAMINANT_VALUES, SCENARIO_FACTORS, TABLE, inputs_of, split, terms_of
 
 OFFICE_WORKER = {
     "EF": Decimal(250, 0), "ED": Decimal(25, 0), "BW": Decimal(70, 0), "AT": Decimal(70, 0), "IR": Decimal(50, 0),
@@ -53,6 +55,31 @@ def marked_figures():
     yield from office_figures()
 
 
+def widest_cases():
+    """For each formula the least factors before the stroke and the greatest after it, and the reverse; each target, each C.
+
+    B is least where VF and PEF are greatest. A decimal on the way with an e outside -999 to 999 is an error (second/steps.py).
+    """
+    ends = Decimal(1, -20), Decimal(999_999_999, 20)
+    for (medium, klass, _), formulas in TABLE.items():
+        for formula, (before, after), target, c in itertools.product(filter(None, formulas), (ends, ends[::-1]), ends, ends):
+            values = dict.fromkeys(SCENARIO_FACTORS + CONTAMINANT_VALUES, before)
+            values.update(dict.fromkeys([*split(formula)[1], "VF", "PEF"], after))
+            values.update({"TR": target, "THI": target, "C": c})
+            yield Case(medium, values, {**values, "class": klass, "id": 1})
+
+
+def widest_wrong():
+    """What does not hold of these: every widest case is accepted, and an e of 1990 on the way is an error."""
+    for case in widest_cases():
+        if guideline(case.scenario, case.medium, case.record).refusal or sums(case.scenario, case.medium, [case.record]).refusal:
+            yield f"refused: {case.medium} {case.scenario} {case.record}"
+    try:
+        yield f"no error: {steps.multiply(Decimal(100_000_000, 991), Decimal(100_000_000, 991), UP)}"
+    except AssertionError:
+        pass
+
+
 def random_list(source):
     """A case whose scenario and medium all records share, and 1 to 120 records in the order of their ids."""
     first = random_valid_case(source)
@@ -79,6 +106,9 @@ def main():
         good = computed == printed
         wrong += not good
         print(f"{name}: {'as printed' if good else f'{computed} in place of {printed}'}")
+    faults = list(widest_wrong())
+    wrong += len(faults)
+    print("\n".join(faults) or "least and greatest inputs: every e on the way from -999 to 999")
     source = random.Random(int(sys.argv[2]))
     refusals, verdicts = collections.Counter(), collections.Counter()
     for _ in range(int(sys.argv[1])):

@@ -15,8 +15,8 @@ import sys
 from guideline_records import REQUIRED
 from second.blocks import (BLOCK, WORD, contaminant_block, header_block, header_of, record_of, write_contaminant,
                            write_header)
-from second.decimals import ZERO, Decimal, in_range
-from second.guideline import ACCEPTED, FACTOR, FIELD, LENGTH, RANGE, ROOM, guideline
+from second.decimals import ZERO, Decimal
+from second.guideline import ACCEPTED, FACTOR, FIELD, LENGTH, ROOM, guideline
 from second.listing import listing, text_of
 from second.promises import guideline_faults, sum_faults
 from second.sites import site
@@ -30,9 +30,9 @@ from site_maker import family_of, planned, sites
 RESULT_FORM = "<4I" + "IhH" * 8 + "428sI"
 SUMMARY_FORM = "<4I" + "IhH" * 4 + "2I452sI"
 # The refusals that the header and the later blocks can have. Block 0 also goes with 1 and 10.
-IN_HEADER, IN_LATER = (1, 2, 3, 4, 5, 6, 10), (2, 3, 4, 7, 8, 9)
-# The specification's decimals never leave the range: refusal 9 is not expected.
-EXPECTED_REFUSALS = [number for number in range(ROOM + 1) if number != RANGE]
+IN_HEADER, IN_LATER = (1, 2, 3, 4, 5, 6, 10), (2, 3, 4, 7, 8)
+# Of the ten refusals all but 11, which no site leads to. The number 9 is not used.
+REFUSALS = sorted({ACCEPTED, *IN_HEADER, *IN_LATER})
 VERDICTS = (1, 2, 3, 4)
 FIGURE = r"\d\.\d{8}E(?:\+0|[+-][1-9]\d*)"
 LINES = re.compile(rf"(\d+ (risk|hazard)( (-|{FIGURE})){{4}}\n)+"
@@ -106,8 +106,6 @@ def accepted_wrong(given, out, answer):
         one = guideline(scenario, medium, record)
         yield from result_wrong(answer.output[BLOCK * place:BLOCK * (place + 1)], place, record, one.guidelines)
         yield from guideline_faults(scenario, medium, record, one)
-        if not all(in_range(d) for d in one.guidelines + answer.sums):
-            yield "e out of range"
     yield from sum_faults(scenario, medium, records, total)
     yield from written_wrong(given, medium, scenario, records)
     yield from text_wrong(text_of(answer, len(given)), records)
@@ -182,7 +180,7 @@ def example_wrong():
 def print_table(families, refusals, verdicts):
     print("sites by family: " + ", ".join(f"{name} {count}" for name, count in families.items()))
     print("refusal  sites")
-    for number in range(ROOM + 1):
+    for number in REFUSALS:
         print(f"{number:7}  {refusals[number]:5}")
     print("verdict   risk  hazard")
     for number in VERDICTS:
@@ -201,7 +199,7 @@ def main():
         refusals[answer.refusal] += 1
         verdicts.update(zip(("risk", "hazard"), answer.verdicts))
     if count >= 300:
-        wrong += [("all", f"no refusal {number}") for number in EXPECTED_REFUSALS if not refusals[number]]
+        wrong += [("all", f"no refusal {number}") for number in REFUSALS if not refusals[number]]
         wrong += [("all", f"no verdict {number} of {side}") for side in ("risk", "hazard") for number in VERDICTS
                   if not verdicts[side, number]]
     print_table(families, refusals, verdicts)

@@ -33,7 +33,7 @@ NUMBERS = {"missing_values": 30, "missing_factors": 22, "near_target": 20, "near
 LENGTHS = {"many_blocks": 4608}
 # Sites that are stored though they are long: the longest that has a right length, and one block more.
 LONG = ("lengths: 61952 bytes, longest; accepted", "lengths: 62464 bytes, cut; refused 1 block 0")
-# Refusal 9 is not among them: no inputs that keep the rules lead to an e out of range. Verdict 0 is that of a refused call.
+# The refusals of a site: of the ten all but 11. The number 9 is not used. Verdict 0 is that of a refused call.
 REFUSALS, VERDICTS = {0, 1, 2, 3, 4, 5, 6, 7, 8, 10}, {0, 1, 2, 3, 4}
 
 

@@ -1,11 +1,13 @@
 """The single guideline: one scenario, one medium, one contaminant record (docs/SPECIFICATION.md, "Guidelines, sums, verdicts")."""
 from typing import NamedTuple
 
-from .decimals import DOWN, UP, ZERO, divide, in_range, keeps_input_rule, working_form
+from .decimals import DOWN, UP, ZERO, keeps_input_rule
+from .steps import divide, working_form
 from .terms import CONTAMINANT_VALUES, HAZARD, RISK, SCENARIO_FACTORS, SIDES, has_pathway, inputs_of, term_sum, terms_of
 
-# Refusals, by the specification's numbers.
-ACCEPTED, LENGTH, CHECK, KIND, FIELD, COUNT, FACTOR, ORDER, PATHWAY, RANGE, ROOM = range(11)
+# Refusals, by the specification's numbers; 9 is not used.
+ACCEPTED, LENGTH, CHECK, KIND, FIELD, COUNT, FACTOR, ORDER, PATHWAY = range(9)
+ROOM = 10
 REQUIRED_FACTORS = ("EF", "ED", "BW", "AT", "TR", "THI")
 TARGET = {RISK: "TR", HAZARD: "THI"}
 
@@ -55,11 +57,7 @@ def guideline(scenario, medium, record):
     inputs = inputs_of(scenario, record)
     if not has_any_pathway(medium, record, inputs):
         return refused(PATHWAY, 1)
-    terms, guidelines = [], []
+    guidelines = []
     for side in SIDES:
-        side_terms = terms_of(medium, record["class"], side, inputs, UP)
-        terms += side_terms
-        guidelines += side_guidelines(scenario[TARGET[side]], side_terms)
-    if not all(in_range(d) for d in terms + guidelines):
-        return refused(RANGE, 1)
+        guidelines += side_guidelines(scenario[TARGET[side]], terms_of(medium, record["class"], side, inputs, UP))
     return Answer(ACCEPTED, 0, tuple(guidelines))

@@ -1,9 +1,9 @@
 """The list call: sums of risk and hazard over a list, and verdicts (docs/SPECIFICATION.md, "Guidelines, sums, verdicts")."""
 from typing import NamedTuple
 
-from .decimals import DOWN, UP, ZERO, add, in_range, multiply, value, working_form
-from .guideline import (ACCEPTED, FIELD, LENGTH, ORDER, PATHWAY, RANGE, TARGET, has_any_pathway, keeps_record_rule,
-                        scenario_refusal, side_guidelines)
+from .decimals import DOWN, UP, ZERO, value
+from .guideline import ACCEPTED, FIELD, LENGTH, ORDER, PATHWAY, TARGET, has_any_pathway, keeps_record_rule, scenario_refusal
+from .steps import add, multiply, working_form
 from .terms import SIDES, has_pathway, inputs_of, term_sum, terms_of
 
 WITHIN, ABOVE, UNDECIDED, NONE = 1, 2, 3, 4
@@ -43,22 +43,14 @@ def record_refusal(scenario, medium, record, previous_id):
 
 
 def add_record(scenario, medium, record, running):
-    """Adds the record's shares to the running sums, which stand by side and direction.
-
-    Gives whether every e that refusal 9 names is in range: terms, guidelines, share, running sums.
-    """
+    """Adds the record's shares to the running sums, which stand by side and direction."""
     inputs = inputs_of(scenario, record)
-    seen = []
     for side in SIDES:
         for direction in (DOWN, UP):
             terms = terms_of(medium, record["class"], side, inputs, direction)
             # A contaminant's share: C times the term sum.
             share = multiply(working_form(record["C"]), term_sum(terms, direction), direction)
             running[side, direction] = add(running[side, direction], share, direction)
-            seen += [*terms, share, running[side, direction]]
-            if direction == UP:
-                seen += side_guidelines(scenario[TARGET[side]], terms)
-    return all(in_range(d) for d in seen)
 
 
 def empty_sums():
@@ -88,7 +80,6 @@ def sums(scenario, medium, records):
         number = record_refusal(scenario, medium, record, previous_id)
         if number != ACCEPTED:
             return refused(number, block)
-        if not add_record(scenario, medium, record, running):
-            return refused(RANGE, block)
+        add_record(scenario, medium, record, running)
         previous_id = record["id"]
     return accepted(scenario, medium, records, running)

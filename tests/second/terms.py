@@ -1,7 +1,8 @@
 """The terms of each pathway, rounded and exact (docs/SPECIFICATION.md, "Terms")."""
 from fractions import Fraction
 
-from .decimals import OPPOSITE, ZERO, Decimal, add, divide, multiply, value, working_form
+from .decimals import OPPOSITE, ZERO, Decimal, value
+from .steps import add, divide, multiply, working_form
 
 SOIL, WATER = 1, 2
 CHEMICAL, RADIONUCLIDE = 1, 2
