@@ -1,4 +1,5 @@
 pub mod Exponent
+pub mod Range
 pub mod Decimal
 pub mod Fraction
 pub mod Lists

@@ -6,7 +6,7 @@ use lib.Dec.{lit<, lit≤}
 use lib.IntN.{ℤ, pos, negsuc}
 use Rattle.rounding.specs.declared.Number.{Number}
 use Rattle.rounding.specs.WorkingForm.{nine_of}
-use Rattle.inputs.specs.Limits.{input_width}
+use Rattle.factors.specs.Widths.{input_width}
 use Rattle.decimal.specs.declared.Decimal.{Decimal}
 use Rattle.decimal.specs.Decimal.{working_of}
 use Rattle.factors.specs.Stands.{Stands}

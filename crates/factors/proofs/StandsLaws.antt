@@ -19,8 +19,9 @@ use Rattle.rounding.specs.WorkingForm.{nine_of}
 use Rattle.rounding.proofs.ExactResults.{product_rounds, quotient_zero, quotient_rounds, sum_rounds}
 use Rattle.rounding.proofs.Exponents.{product_result, quotient_result, sum_result}
 use Rattle.rounding.proofs.NineDigits.{nine_result}
-use Rattle.inputs.specs.Limits.{input_width, middle_width}
+use Rattle.factors.specs.Widths.{input_width, middle_width}
 use Rattle.decimal.specs.declared.Decimal.{Decimal}
+use Rattle.decimal.specs.Range.{ends}
 use Rattle.decimal.specs.Decimal.{zero_of, biased_of, decimal_of, mul_of, div_of, add_of, working_of}
 use Rattle.decimal.proofs.OperandFacts.{Operand}
 use Rattle.decimal.proofs.Laws.{decimal_zero, working_is, nine_working}
@@ -109,12 +110,12 @@ pub stands_mul3 : (dir : Direction) {u v w : ℕ} {p q n r : Number} {a b c : De
     r ≡ product_of dir (product_of dir p q) n → Stands (u + v + w + 2) r (mul_of (mul_of a b dir) c dir)
 stands_mul3 dir {u} {v} {w} s t z h e = stands_most (omega arith) (stands_mul dir (stands_mul dir s t (omega arith) refl) z (omega arith) e)
 
-pub stands_value : {w : ℕ} {r : Number} {d : Decimal} → w ≤ 990 → Stands w r d → Value w d
+pub stands_value : {w : ℕ} {r : Number} {d : Decimal} → w ≤ 990 → Stands w r d → Value (ends w w) d
 stands_value {w} {r} {d} h s = cases s.working
   where
-    cases : Working r → Value w d
+    cases : Working r → Value (ends w w) d
     cases (inl z) = absent (sym s.is ∙ decimal_zero r z)
-    cases (inr n) = known (subst (Sized w) s.is (sized_of w r n s.low s.high h))
+    cases (inr n) = known (subst (Sized (ends w w)) s.is (sized_of (ends w w) r n s.low s.high (record { low = omega arith; high = omega arith })))
 
 -- ---- the number of a valid decimal
 pub number_stands : (d : Decimal) (r : Number) → valid_of d ≡ true → r ≡ nine_of (biased_of d) → Stands input_width r (working_of d)

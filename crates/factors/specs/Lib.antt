@@ -1,3 +1,4 @@
+pub mod Widths
 pub mod Stands
 pub mod Prepared
 pub mod OneProof

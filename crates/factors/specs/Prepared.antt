@@ -4,7 +4,7 @@ use Rattle.rounding.specs.Sizes.{ten_digits, bias}
 use Rattle.rounding.specs.declared.Direction.{Direction}
 use Rattle.rounding.specs.declared.Number.{Number}
 use Rattle.rounding.specs.Direction.{opposite}
-use Rattle.inputs.specs.Limits.{two_width, three_width, middle_width}
+use Rattle.factors.specs.Widths.{two_width, three_width, middle_width}
 use Rattle.decimal.specs.declared.Decimal.{Decimal}
 use Rattle.decimal.specs.Decimal.{decimal_of, div_of, working_of}
 use Rattle.decimal.specs.Lists.{product_of}

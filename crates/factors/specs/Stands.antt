@@ -3,7 +3,7 @@ use Rattle.std.specs.Prelude.{◌≡◌, List, [], ◌∷◌, ◌++◌, map, ℕ
 use Rattle.rounding.specs.Sizes.{ten_digits, bias}
 use Rattle.rounding.specs.declared.Number.{Number}
 use Rattle.rounding.specs.Number.{Working}
-use Rattle.inputs.specs.Limits.{input_width}
+use Rattle.factors.specs.Widths.{input_width}
 use Rattle.decimal.specs.declared.Decimal.{Decimal}
 use Rattle.decimal.specs.Decimal.{decimal_of, working_of}
 use Rattle.inputs.specs.declared.Scenario.{Scenario}

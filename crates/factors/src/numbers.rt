@@ -1,6 +1,6 @@
 // The inputs as numbers of nine digits with biased exponents, on which the terms are worked out: in the groups of `inputs`.
 ghost use Rattle.std.specs.Prelude.{◌≡◌, true, map};
-ghost use Rattle.inputs.specs.Limits.{input_width};
+ghost use Rattle.factors.specs.Widths.{input_width};
 ghost use Rattle.decimal.specs.Decimal.{working_of};
 ghost use Rattle.inputs.specs.Inputs.{scenario_decimals, formula_decimals};
 ghost use Rattle.inputs.specs.Valid.{valid_of, all_valid};

@@ -63,12 +63,7 @@ RF = scenario_first + 8
 abbrev pub SA : ℕ
 SA = scenario_first + 9
 
-abbrev pub TR : ℕ
-TR = scenario_first + 10
-
-abbrev pub THI : ℕ
-THI = scenario_first + 11
-
+-- then the targets, which no formula names
 abbrev contaminant_first : ℕ
 contaminant_first = scenario_first + scenario_places
 

@@ -1,4 +1,4 @@
--- The two sides: risk, with target TR, and hazard, with target THI.
+-- The two sides. Their targets are in Target.antt.
 pub data Side : Type 0 where
   Risk : Side
   Hazard : Side

@@ -20,7 +20,7 @@ use Rattle.decimal.proofs.Laws.{decimal_zero, decimal_nine}
 use Rattle.terms.specs.declared.pathways.PathwayTerms.{PathwayTerms}
 use Rattle.formulas.specs.Formula.{Formula, none}
 use Rattle.formulas.specs.Term.{term_of, total_of}
-use Rattle.inputs.specs.Limits.{input_width, formula_width}
+use Rattle.factors.specs.Widths.{input_width, formula_width}
 use Rattle.factors.specs.Stands.{Stands}
 use Rattle.terms.specs.Side.{Wide, WideSide}
 use Rattle.decimal.proofs.Value.{skip_first, skip_next}

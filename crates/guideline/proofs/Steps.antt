@@ -1,6 +1,5 @@
 -- The steps of the single guideline's code, and what their results stand for. Assumes nothing.
-use mathlib.Core.Path.{◌≡◌, sym, subst, ◌∙◌}
-use mathlib.Core.Bool.{true, ◌&&◌}
+use mathlib.Core.Path.{◌≡◌, subst, sym, ◌∙◌}
 use mathlib.Core.List.{List}
 use Prim.Native.Nat.{ℕ}
 use lib.Dec.{lit≤}
@@ -14,22 +13,22 @@ use Rattle.factors.specs.declared.numbers.Factors.{Factors}
 use Rattle.factors.specs.declared.numbers.ContaminantNumbers.{ContaminantNumbers}
 use Rattle.factors.specs.declared.prepared.Prepared.{Prepared}
 use Rattle.terms.specs.declared.pathways.PathwayTerms.{PathwayTerms}
-use Rattle.terms.specs.Side.{Terms}
-use Rattle.inputs.specs.Limits.{input_width}
+use Rattle.terms.specs.Side.{Terms, number_values, SideFor, TermsFor, Wide, WideSide}
 use Rattle.formulas.specs.Side.{Risk, Hazard}
-use Rattle.formulas.specs.Formula.{Formula, TR, THI, derived}
-use Rattle.formulas.specs.Term.{look, values_of, formulas_for, values_for}
-use Rattle.factors.specs.Stands.{Stands, FactorsFor, NumbersFor}
+use Rattle.formulas.specs.Target.{working_target}
+use Rattle.formulas.specs.Formula.{Formula}
+use Rattle.formulas.specs.Term.{formulas_for, values_for}
+use Rattle.factors.specs.Stands.{FactorsFor, NumbersFor}
 use Rattle.factors.specs.Prepared.{PreparedFor}
-use Rattle.terms.specs.Side.{number_values, SideFor, TermsFor, Wide, WideSide}
 use Rattle.formulas.proofs.Sound.{three_pathways}
 use Rattle.factors.proofs.StandsLaws.{risk_target, hazard_target}
 use Rattle.terms.proofs.SameValues.{values_same}
 use Rattle.guideline.specs.declared.Column.{Column}
-use Rattle.guideline.specs.Column.{ColumnFor, column_ranged, column_decimals}
+use Rattle.guideline.specs.Column.{ColumnFor, column_decimals, column_ranged}
 use Rattle.guideline_rules.proofs.Accepted.{Accepted}
 use Rattle.guideline_rules.specs.Guideline.{accepted, worked_out}
-use Rattle.guideline.proofs.ColumnBounds.{SideStands, ColumnStands, stands_wide, side_wide, column_stands, column_ranged_lem, column_is}
+use Rattle.guideline.proofs.ColumnBounds.{SideStands, ColumnStands, stands_wide, side_wide, column_stands, column_is, column_ranged_lem}
+use mathlib.Core.Bool.{true, ◌&&◌}
 use Rattle.guideline_rules.proofs.Promises.{worked}
 
 -- ---- the terms over the values of the definitions
@@ -76,21 +75,15 @@ module _ {s : Scenario} {medium : ℕ} {r : Contaminant} {f : Factors} {p : Prep
   hazard_three : length (formulas_for s medium r Hazard) ≡ 3
   hazard_three = three_pathways medium r.class Hazard
 
-  risk_stands : Stands input_width f.targets.tr (look vs TR)
-  unfolding values_of derived
-  risk_stands = risk_target s f h.terms.factors
-
-  hazard_stands : Stands input_width f.targets.thi (look vs THI)
-  unfolding values_of derived
-  hazard_stands = hazard_target s f h.terms.factors
-
-  pub risk_column : ColumnStands vs (look vs TR) (formulas_for s medium r Risk) x
+  pub risk_column : ColumnStands vs (working_target s Risk) (formulas_for s medium r Risk) x
   risk_column =
-      column_stands vs (formulas_for s medium r Risk) k.risk risk_three (risk_terms h.terms) f.targets.tr (look vs TR) x risk_stands h.risk
+      column_stands vs (formulas_for s medium r Risk) k.risk risk_three (risk_terms h.terms) f.targets.tr (working_target s Risk) x
+      (risk_target s f h.terms.factors) h.risk
 
-  pub hazard_column : ColumnStands vs (look vs THI) (formulas_for s medium r Hazard) y
+  pub hazard_column : ColumnStands vs (working_target s Hazard) (formulas_for s medium r Hazard) y
   hazard_column =
-      column_stands vs (formulas_for s medium r Hazard) k.hazard hazard_three (hazard_terms h.terms) f.targets.thi (look vs THI) y hazard_stands h.hazard
+      column_stands vs (formulas_for s medium r Hazard) k.hazard hazard_three (hazard_terms h.terms) f.targets.thi (working_target s Hazard) y
+      (hazard_target s f h.terms.factors) h.hazard
 
   pub in_range_lem : column_ranged k.risk x && column_ranged k.hazard y ≡ true
   in_range_lem = rw (column_ranged_lem (risk_terms h.terms) risk_column, column_ranged_lem (hazard_terms h.terms) hazard_column)

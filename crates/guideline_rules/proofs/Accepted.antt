@@ -12,6 +12,8 @@ use mathlib.Core.List.{[], ◌∷◌, ◌++◌}
 use borrow.Author.Tests.{not-true, not-false}
 use Rattle.rounding.specs.declared.Direction.{Direction}
 use Rattle.inputs.proofs.Tests.{and_split, valid_append, contaminant_parts, one_or_two_lem}
+use Rattle.formulas.specs.Side.{Side, Risk, Hazard}
+use Rattle.formulas.specs.Target.{target_of}
 use Rattle.formulas.specs.Term.{constants, inputs_of, values_for}
 use Rattle.formulas.specs.ExactTerm.{exact_for}
 use Rattle.formulas.proofs.TermBounds.{Represents}
@@ -29,6 +31,11 @@ pub record Accepted (s : Scenario) (medium : ℕ) (r : Contaminant) : Type 0 whe
   pub class : OneOrTwo r.class
   pub risk_target : eqb s.targets.tr.m 0 ≡ false
   pub hazard_target : eqb s.targets.thi.m 0 ≡ false
+
+-- the target of each side is known
+pub target_known : {s : Scenario} {medium : ℕ} {r : Contaminant} → Accepted s medium r → (side : Side) → eqb (target_of s side).m 0 ≡ false
+target_known a Risk = a.risk_target
+target_known a Hazard = a.hazard_target
 
 -- ---- the inputs of an accepted call keep their rule, with the constants
 constants_valid : all_valid constants ≡ true

@@ -6,7 +6,7 @@ use Prim.Native.Nat.{ℕ, zero, suc, ◌+◌, ◌*◌, ◌≤◌, ◌<◌}
 use native.Mathlib.Omega.{arith}
 use lib.Dec.{eqb, lit≤}
 use lib.ListN.{get_or}
-use borrow.Author.Tests.{eq-eqb, ne_eqb}
+use borrow.Author.Tests.{ne_eqb, eq-eqb}
 use Rattle.rounding.specs.declared.Direction.{Direction}
 use Rattle.rounding.specs.declared.Direction.TheVariants.{Down, Up}
 use Rattle.rounding.specs.Within.{Within}
@@ -15,41 +15,45 @@ use Rattle.rounding.proofs.Distances.{parts}
 use Rattle.decimal.specs.declared.Decimal.{Decimal}
 use Rattle.decimal.specs.Decimal.{zero_of, value_of, div_of}
 use Rattle.decimal.specs.Fraction.{Fraction, given, over}
+use Rattle.decimal.specs.Range.{Range}
+use Rattle.decimal.proofs.Ranges.{covers}
 use Rattle.decimal.proofs.Laws.{div_zero}
 use Rattle.decimal.proofs.Approximation.{Approx, Fair, approx_div, fair_most, fair_zero, fair_there, given_zero}
 use Rattle.decimal.proofs.Approximation.Fair.{none, some}
-use Rattle.outcome.specs.declared.Refusal.{Refusal}
 use Rattle.outcome.specs.declared.Refusal.TheVariants.{Field}
 use Rattle.std.specs.Prelude.{Result, Ok, Err, ⊤}
 use Rattle.outcome.specs.declared.Refused.{Refused}
-use Rattle.outcome.specs.Outcome.{Test, refusal_number, refused, refused_by, number_of}
-use Rattle.outcome.proofs.Numbers.{refusal_numbered}
+use Rattle.outcome.specs.Outcome.{refused, number_of, Test, refusal_number, refused_by}
 use Rattle.outcome.proofs.Tests.{all_numbers, refused_number, passing_other}
 use Rattle.inputs.specs.declared.Scenario.{Scenario}
 use Rattle.inputs.specs.declared.Contaminant.{Contaminant}
-use Rattle.inputs.specs.Rules.{scenario_tests, scenario_refusal, contaminant_fits}
-use Rattle.inputs.specs.Limits.{input_width, formula_roundings, formula_width, total_roundings, total_width, guideline_roundings, guideline_width}
+use Rattle.inputs.specs.Rules.{scenario_refusal, contaminant_fits, scenario_tests}
+use Rattle.formulas.specs.Limits.{input_range, formula_roundings, formula_range, total_roundings, total_range, guideline_roundings, guideline_range}
 use Rattle.formulas.specs.Side.{Side, Risk, Hazard}
-use Rattle.formulas.specs.Formula.{Formula, TR, THI, none as no_formula, derived}
-use Rattle.formulas.specs.Term.{term_of, total_of, values_of, formulas_for, values_for}
-use Rattle.formulas.specs.ExactTerm.{exact_present, exact_term, exact_total, exact_values, exact_for, any_present}
+use Rattle.formulas.specs.Target.{target_of, working_target}
+use Rattle.formulas.specs.Formula.{Formula, none as no_formula}
+use Rattle.formulas.specs.Term.{term_of, total_of, formulas_for, values_for}
+use Rattle.formulas.specs.ExactTerm.{exact_present, exact_term, exact_total, exact_for, any_present}
 use Rattle.decimal.proofs.Value.{Value, value_inside, fair_value}
 use Rattle.decimal.proofs.Value.Value.{absent, known}
 use Rattle.formulas.proofs.Sound.{table_sound, sound_at_lem, none_sound, three_pathways}
 use Rattle.formulas.proofs.TermBounds.{Represents, term_fair, term_present}
-use Rattle.guideline_rules.specs.Answer.{Guidelines}
-use Rattle.guideline_rules.proofs.Accepted.{Accepted, values_of_lem, accepted_inputs, scenario_passed}
-use Rattle.guideline_rules.specs.Pathway.{record_tests, record_refusal}
-use Rattle.guideline_rules.specs.Guideline.{side_of, target_value, guidelines_of, guideline_ranged, accepted, guidelines_sent, worked_out, guideline_of}
-use Rattle.guideline_rules.specs.Promise.{target_of, pathway_at, Kept, Promised}
+use Rattle.formulas.proofs.ValueBounds.{target_fair}
 use Rattle.formulas.specs.Sides.{side_at}
+use Rattle.guideline_rules.specs.Answer.{Guidelines}
+use Rattle.guideline_rules.proofs.Accepted.{Accepted, target_known, values_of_lem, accepted_inputs, scenario_passed}
+use Rattle.guideline_rules.specs.Pathway.{record_refusal, record_tests}
+use Rattle.guideline_rules.specs.Guideline.{side_of, guidelines_of, guidelines_sent, guideline_of, guideline_ranged, accepted, worked_out}
+use Rattle.guideline_rules.specs.Promise.{pathway_at, Kept, Promised}
 use Rattle.guideline_rules.proofs.WorkedOut.{total_bounds, present_total}
+use Rattle.outcome.specs.declared.Refusal.{Refusal}
+use Rattle.outcome.proofs.Numbers.{refusal_numbered}
 
 -- ---- nineteen roundings are less than 2/10,000,000
 kept_core : (a b : ℕ) → Within guideline_roundings a b → b * 9999998 ≤ a * 10000000
 kept_core a b f = let h = parts guideline_roundings (guideline_roundings + 1) tt f in omega arith
 
-kept_of : (g : Decimal) (t q : Fraction) {w : ℕ} → Approx Down guideline_roundings w g (over t q) → Kept g t q
+kept_of : (g : Decimal) (t q : Fraction) {w : Range} → Approx Down guideline_roundings w g (over t q) → Kept g t q
 unfolding given
 kept_of g t q f = record {
   most = omega (arith, f.near.within.low);
@@ -57,32 +61,32 @@ kept_of g t q f = record {
 }
 
 -- ---- a target over anything that stands for a fraction
-module _ {target : Decimal} {t : Fraction} (h : Approx Down 0 input_width target t) where
-  pub promised : {d : Decimal} {q : Fraction} (present : Bool) → Fair Up total_roundings total_width d q → not (eqb q.top 0) ≡ present →
+module _ {target : Decimal} {t : Fraction} (h : Approx Down 0 input_range target t) where
+  pub promised : {d : Decimal} {q : Fraction} (present : Bool) → Fair Up total_roundings total_range d q → not (eqb q.top 0) ≡ present →
       Promised (div_of target d Down) t present q
   promised {d} {q} present (none e z b) p =
       let zero_now : div_of target d Down ≡ zero_of = ap (λ (v : Decimal). div_of target v Down) e ∙ div_zero Down target in
       let off : false ≡ present = sym (ap (λ (n : ℕ). not (eqb n 0)) z) ∙ p in
       record { when = ap (λ (v : Decimal). not (eqb v.m 0)) zero_now ∙ off; kept = λ on. absurd (false≢true (off ∙ on)) }
   promised {d} {q} present (some f) p =
-      let g = approx_div Down h f (lit≤ tt) in
+      let g = approx_div Down h f (covers refl) in
       record {
         when = ap not (ne_eqb (div_of target d Down).m 0 (omega (arith, g.sized.nine.least))) ∙ sym (ap not (ne_eqb q.top 0 (omega (arith, f.top)))) ∙ p;
         kept = λ on. kept_of (div_of target d Down) t q g;
       }
 
-  guideline_value : {d : Decimal} {q : Fraction} → Fair Up total_roundings total_width d q → Value guideline_width (div_of target d Down)
+  pub guideline_value : {d : Decimal} {q : Fraction} → Fair Up total_roundings total_range d q → Value guideline_range (div_of target d Down)
   guideline_value {d} (none e z b) = absent (ap (λ (v : Decimal). div_of target v Down) e ∙ div_zero Down target)
-  guideline_value (some f) = known (approx_div Down h f (lit≤ tt)).sized
+  guideline_value (some f) = known (approx_div Down h f (covers refl)).sized
 
 -- ---- a term of an accepted call, in either direction
 pub term_bounds : (dir : Direction) (s : Scenario) (medium : ℕ) (r : Contaminant) → Accepted s medium r → (side : Side) (n : ℕ) →
-    Fair dir total_roundings total_width (term_of (values_for dir s r) dir (get_or (formulas_for s medium r side) n no_formula))
+    Fair dir total_roundings total_range (term_of (values_for dir s r) dir (get_or (formulas_for s medium r side) n no_formula))
     (exact_term (exact_for s r) (get_or (formulas_for s medium r side) n no_formula))
 term_bounds dir s medium r a side n =
-    fair_most dir (lit≤ tt) (lit≤ tt)
-    (term_fair dir _ _ (values_of_lem dir s medium r a) {K = formula_roundings} {W = formula_width} (lit≤ tt) (get_or (formulas_for s medium r side) n no_formula)
-    (sound_at_lem (table_sound medium r.class side) (none_sound formula_roundings formula_width (lit≤ tt) (lit≤ tt)) n))
+    fair_most dir (lit≤ tt) (covers refl)
+    (term_fair dir _ _ (values_of_lem dir s medium r a) {K = formula_roundings} {W = formula_range} (covers refl) (get_or (formulas_for s medium r side) n no_formula)
+    (sound_at_lem (table_sound medium r.class side) none_sound n))
 
 -- ---- one side of an accepted call
 module _ (s : Scenario) (medium : ℕ) (r : Contaminant) (a : Accepted s medium r) where
@@ -100,10 +104,10 @@ module _ (s : Scenario) (medium : ℕ) (r : Contaminant) (a : Accepted s medium 
 
   term_there : (side : Side) (n : ℕ) → not (eqb (exact_term qs (get_or (pathways side) n no_formula)).top 0) ≡ exact_present qs (get_or (pathways side) n no_formula)
   term_there side n =
-      term_present Up vs qs reps {K = formula_roundings} {W = formula_width} (lit≤ tt) (get_or (pathways side) n no_formula)
-      (sound_at_lem (table_sound medium r.class side) (none_sound formula_roundings formula_width (lit≤ tt) (lit≤ tt)) n)
+      term_present Up vs qs reps {K = formula_roundings} {W = formula_range} (covers refl) (get_or (pathways side) n no_formula)
+      (sound_at_lem (table_sound medium r.class side) none_sound n)
 
-  total_fairly : (side : Side) → Fair Up total_roundings total_width (total_of vs Up (pathways side)) (exact_total qs (pathways side))
+  pub total_fairly : (side : Side) → Fair Up total_roundings total_range (total_of vs Up (pathways side)) (exact_total qs (pathways side))
   total_fairly side = total_bounds Up vs qs reps (pathways side) (table_sound medium r.class side) (three_pathways medium r.class side)
 
   total_there : (side : Side) → not (eqb (exact_total qs (pathways side)).top 0) ≡ any_present qs (pathways side)
@@ -112,10 +116,8 @@ module _ (s : Scenario) (medium : ℕ) (r : Contaminant) (a : Accepted s medium 
       present_total Up vs qs reps (pathways side) (table_sound medium r.class side) (three_pathways medium r.class side)
 
   -- the targets
-  target_bounds : (side : Side) → Approx Down 0 input_width (target_value s r side) (given (target_of s side))
-  unfolding values_of exact_values derived
-  target_bounds Risk = fair_there (reps.other TR refl) (given_zero s.targets.tr ∙ a.risk_target)
-  target_bounds Hazard = fair_there (reps.other THI refl) (given_zero s.targets.thi ∙ a.hazard_target)
+  pub target_bounds : (side : Side) → Approx Down 0 input_range (working_target s side) (given (target_of s side))
+  target_bounds side = fair_there (target_fair Down s a.scenario side) (given_zero (target_of s side) ∙ target_known a side)
 
   -- ---- the promise of the total and of each pathway
   total_promise : (side : Side) → Promised (guidelines_of s medium r side).total (given (target_of s side)) (any_present qs (pathways side)) (exact_total qs (pathways side))

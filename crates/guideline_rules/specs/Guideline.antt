@@ -11,8 +11,9 @@ use Rattle.inputs.specs.declared.Scenario.{Scenario}
 use Rattle.inputs.specs.declared.Contaminant.{Contaminant}
 use Rattle.inputs.specs.Rules.{scenario_refusal, contaminant_fits}
 use Rattle.formulas.specs.Side.{Side, Risk, Hazard}
-use Rattle.formulas.specs.Formula.{Formula, none, TR, THI}
-use Rattle.formulas.specs.Term.{look, term_of, total_of, formulas_for, values_for}
+use Rattle.formulas.specs.Target.{working_target}
+use Rattle.formulas.specs.Formula.{Formula, none}
+use Rattle.formulas.specs.Term.{term_of, total_of, formulas_for, values_for}
 use Rattle.guideline_rules.specs.Pathway.{record_refusal}
 use Rattle.guideline_rules.specs.declared.SideGuidelines.{SideGuidelines}
 use Rattle.guideline_rules.specs.Answer.{Guidelines}
@@ -49,21 +50,13 @@ guidelines_sent (Ok g) = g
 guidelines_sent (Err r) = record { risk = zero_side; hazard = zero_side }
 
 -- ---- one record in a scenario and a medium
--- the target of each side, by its name in the table of formulas
-abbrev pub target_name : Side → ℕ
-target_name Risk = TR
-target_name Hazard = THI
-
-abbrev pub target_value : Scenario → Contaminant → Side → Decimal
-target_value s r side = look (values_for Up s r) (target_name side)
-
 -- a side's guidelines: its target over each term of its formulas, and over their sum
 abbrev pub guidelines_of : Scenario → ℕ → Contaminant → Side → SideGuidelines
-guidelines_of s medium r side = side_of (values_for Up s r) (target_value s r side) (formulas_for s medium r side)
+guidelines_of s medium r side = side_of (values_for Up s r) (working_target s side) (formulas_for s medium r side)
 
 -- a side without a 9: its terms, their sum and its guidelines
 abbrev pub guideline_ranged : Scenario → ℕ → Contaminant → Side → Bool
-guideline_ranged s medium r side = all_ranged (side_decimals (values_for Up s r) (target_value s r side) (formulas_for s medium r side))
+guideline_ranged s medium r side = all_ranged (side_decimals (values_for Up s r) (working_target s side) (formulas_for s medium r side))
 
 -- the guidelines of both sides, or 9 in block 1
 unfoldable pub worked_out : Scenario → ℕ → Contaminant → Result Guidelines Refused

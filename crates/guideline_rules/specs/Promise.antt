@@ -2,13 +2,7 @@
 use Rattle.std.specs.Prelude.{◌≡◌, Bool, true, not, ℕ, zero, suc, eqb}
 use Rattle.decimal.specs.declared.Decimal.{Decimal}
 use Rattle.decimal.specs.Fraction.{Fraction, given, times, AtMost}
-use Rattle.inputs.specs.declared.Scenario.{Scenario}
-use Rattle.formulas.specs.Side.{Side, Risk, Hazard}
 use Rattle.guideline_rules.specs.declared.SideGuidelines.{SideGuidelines}
-
-abbrev pub target_of : Scenario → Side → Decimal
-target_of s Risk = s.targets.tr
-target_of s Hazard = s.targets.thi
 
 -- the guideline of pathway 0, 1 or 2
 abbrev pub pathway_at : SideGuidelines → ℕ → Decimal

@@ -46,9 +46,6 @@ pub valid_join : (x y : List Decimal) → all_valid (x ++ y) ≡ all_valid x && 
 valid_join [] y = refl
 valid_join (d ∷ ds) y = ap (λ (b : Bool). valid_of d && b) (valid_join ds y) ∙ sym (and_assoc (valid_of d) (all_valid ds) (all_valid y))
 
-pub valid_join3 : (x y z : List Decimal) → all_valid (x ++ (y ++ z)) ≡ all_valid x && (all_valid y && all_valid z)
-valid_join3 x y z = valid_join x (y ++ z) ∙ ap (λ (b : Bool). all_valid x && b) (valid_join y z)
-
 -- valid decimals of two groups are valid in each
 pub valid_parts : (x y : List Decimal) → all_valid (x ++ y) ≡ true → (all_valid x ≡ true) × (all_valid y ≡ true)
 valid_parts x y h = and_split (all_valid x) (all_valid y) (sym (valid_join x y) ∙ h)

@@ -3,4 +3,3 @@ pub mod Valid
 pub mod Rules
 pub mod Kinds
 pub mod BuiltIn
-pub mod Limits

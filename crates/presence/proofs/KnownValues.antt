@@ -12,11 +12,12 @@ use Rattle.decimal.specs.declared.Decimal.{Decimal}
 use Rattle.decimal.specs.Fraction.{Fraction}
 use Rattle.decimal.specs.Decimal.{zero_of, working_of}
 use Rattle.decimal.proofs.Approximation.{fair_zero, given_zero, working_fair}
+use Rattle.decimal.proofs.Ranges.{covers}
 use Rattle.inputs.specs.declared.Scenario.{Scenario}
 use Rattle.inputs.specs.declared.Contaminant.{Contaminant}
 use Rattle.inputs.specs.Valid.{valid_of, all_valid}
 use Rattle.inputs.proofs.Tests.{and_split, valid_small}
-use Rattle.inputs.specs.Limits.{part_roundings, part_width}
+use Rattle.formulas.specs.Limits.{part_roundings, part_range}
 use Rattle.formulas.specs.Side.{Side, Risk, Hazard}
 use Rattle.formulas.specs.Formula.{Formula, table, pathways_of, derived}
 use Rattle.formulas.specs.Term.{known, present_of, term_of, total_of, inputs_of, plain_values, values_of, formulas_for, values_for}
@@ -67,13 +68,13 @@ module _ (sfo sfi rfdo rfdi : Bool) where
 
 -- ---- a factor that is worked out is known exactly when one of its parts is
 module _ (vs : List Decimal) (qs : List Fraction) (r : Represents Up vs qs) where
-  parts_known : (fss : List (List Formula)) → Every part_roundings part_width fss → map known_of (map (total_of vs Up) fss) ≡ map (some_known (map known_of vs)) fss
+  parts_known : (fss : List (List Formula)) → Every part_roundings part_range fss → map known_of (map (total_of vs Up) fss) ≡ map (some_known (map known_of vs)) fss
   parts_known [] end = refl
   parts_known (fs ∷ fss) (next s short e) =
       let n = length-map fs (term_of vs Up) in
-      let total = total_fair Up vs qs r {K = part_roundings} {W = part_width} (lit≤ tt) fs s (omega (arith, short, n)) in
+      let total = total_fair Up vs qs r {K = part_roundings} {W = part_range} (covers refl) fs s (record { low = lit≤ tt; high = omega (arith, short, n) }) in
       ap₂ (λ (k : Bool) (ks : List Bool). k ∷ ks)
-      (ap not (fair_zero total) ∙ total_present Up vs qs r {K = part_roundings} {W = part_width} (lit≤ tt) fs s ∙ sym (any_same vs qs r fs) ∙ any_known vs fs)
+      (ap not (fair_zero total) ∙ total_present Up vs qs r {K = part_roundings} {W = part_range} (covers refl) fs s ∙ sym (any_same vs qs r fs) ∙ any_known vs fs)
       (parts_known fss e)
 
 -- ---- what the code tests is what the table asks, where the factors that every term names are known

@@ -16,7 +16,7 @@ use Rattle.terms.specs.Side.{Wide, WideSide}
 use Rattle.guideline.specs.declared.Column.{Column}
 use Rattle.guideline.specs.Column.{ColumnFor, PrintableColumn, column_decimals}
 use Rattle.inputs.specs.Rules.{scenario_refusal, most_contaminants, lacks_factor}
-use Rattle.inputs.specs.Limits.{share_width}
+use Rattle.factors.specs.Widths.{share_width}
 use Rattle.guideline_rules.specs.Guideline.{guidelines_sent, guideline_of, accepted}
 use Rattle.guideline.proofs.ColumnBounds.{column_printable}
 use Rattle.guideline.proofs.Steps.{TermsOf, ColumnsOf, wide, risk_column, hazard_column, accepted_out}

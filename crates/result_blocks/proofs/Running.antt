@@ -5,7 +5,7 @@ use Prim.Native.Nat.{ℕ, ◌+◌, ◌-◌, ◌≤◌, ◌<◌}
 use native.Mathlib.Omega.{arith}
 use Rattle.shares.specs.declared.plan.Plan.{Plan}
 use Rattle.shares.specs.Runs.{Runs}
-use Rattle.inputs.specs.Limits.{share_width}
+use Rattle.factors.specs.Widths.{share_width}
 use Rattle.formulas.specs.Side.{Side, Risk, Hazard}
 use Rattle.sum_rules.specs.Share.{Running, start, next, run_all}
 use Rattle.shares.specs.Plan.{running_of, no_runs}

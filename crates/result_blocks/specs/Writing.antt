@@ -3,7 +3,7 @@ use Rattle.std.specs.Prelude.{◌≡◌, false, List, ◌++◌, ℕ, ◌+◌, �
 use Rattle.block_rules.specs.Rules.{block_size}
 use Rattle.inputs.specs.declared.Scenario.{Scenario}
 use Rattle.inputs.specs.Rules.{most_contaminants, lacks_factor}
-use Rattle.inputs.specs.Limits.{share_width}
+use Rattle.factors.specs.Widths.{share_width}
 use Rattle.formulas.specs.Side.{Risk, Hazard}
 use Rattle.shares.specs.declared.plan.Plan.{Plan}
 use Rattle.shares.specs.Runs.{Runs}

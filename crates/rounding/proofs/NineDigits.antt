@@ -2,10 +2,11 @@
 use mathlib.Core.Path.{◌≡◌, refl, sym, ap, ◌∙◌}
 use mathlib.Core.Bool.{Bool, true, false, cond}
 use Prim.Native.Nat.{ℕ, ◌+◌, ◌-◌, ◌*◌, ◌^◌, ◌≤◌, ◌<◌}
-use native.Mathlib.Nat.{le_trans, mul-le-mul_right, le_of_mul-le-mul_right, mul_assoc, zero-mul}
+use native.Mathlib.Nat.{le_trans, mul-le-mul_right, mul-lt-mul_of_pos_right, le_of_mul-le-mul_right, mul_assoc, zero-mul, pow-le-pow_right}
+use native.Mathlib.Decide.{dec_lt}
 use native.Mathlib.Omega.{arith}
 use lib.Pow.{pow-add}
-use lib.Dec.{ltb, lit≤}
+use lib.Dec.{ltb, lit<, lit≤}
 use borrow.Author.Tests.{ltb-true, ltb-false}
 use Rattle.rounding.specs.declared.Number.{Number}
 use Rattle.rounding.specs.Number.{worth, Nine}
@@ -26,7 +27,9 @@ module _ (k : ℕ) (r : Number) where
   pub raise_bounds : r.m < 1000000000 → ((raise_by k r).m < 1000000000) × (r.x ≤ (raise_by k r).x + k) × ((raise_by k r).x ≤ r.x)
   raise_bounds h = cases (ltb (r.m * 10 ^ k) 1000000000) refl
     where
-      cases : (b : Bool) → ltb (r.m * 10 ^ k) 1000000000 ≡ b → ((cond b (record { m = r.m * 10 ^ k; x = r.x - k }) r).m < 1000000000) × (r.x ≤ (cond b (record { m = r.m * 10 ^ k; x = r.x - k }) r).x + k) × ((cond b (record { m = r.m * 10 ^ k; x = r.x - k }) r).x ≤ r.x)
+      cases : (b : Bool) → ltb (r.m * 10 ^ k) 1000000000 ≡ b →
+          let q = cond b (record { m = r.m * 10 ^ k; x = r.x - k }) r in
+          (q.m < 1000000000) × (r.x ≤ q.x + k) × (q.x ≤ r.x)
       cases true e = (ltb-true (r.m * 10 ^ k) 1000000000 e, omega arith, omega arith)
       cases false e = (h, omega arith, omega arith)
 
@@ -79,7 +82,11 @@ module _ (r : Number) (h : r.m < 1000000000) where
   pub nine_nine : 0 < r.m → Nine (nine_of r)
   unfolding nine_of r₁ r₂ r₃
   nine_nine p = record {
-    least = raise_least 1 r₃ 10000000 100000000 (raise_least 2 r₂ 100000 10000000 (raise_least 4 r₁ 10000 100000 (raise_least 4 r 1 10000 p (lit≤ tt) (lit≤ tt)) (lit≤ tt) (lit≤ tt)) (lit≤ tt) (lit≤ tt)) (lit≤ tt) (lit≤ tt);
+    least =
+        let a = raise_least 4 r 1 10000 p (lit≤ tt) (lit≤ tt) in
+        let b = raise_least 4 r₁ 10000 100000 a (lit≤ tt) (lit≤ tt) in
+        let c = raise_least 2 r₂ 100000 10000000 b (lit≤ tt) (lit≤ tt) in
+        raise_least 1 r₃ 10000000 100000000 c (lit≤ tt) (lit≤ tt);
     most = (raise_bounds 1 r₃ most₃).0;
   }
 
@@ -94,3 +101,18 @@ module _ (r : Number) (h : r.m < 1000000000) where
   pub nine_zero : r.m ≡ 0 → (nine_of r).m ≡ 0
   unfolding nine_of
   nine_zero z = raise_zero 1 _ (raise_zero 2 _ (raise_zero 4 _ (raise_zero 4 r z)))
+
+-- nine digits of the same worth stand at most eight places lower
+pub nine_low : (r : Number) → r.m < 1000000000 → 0 < r.m → 11 ≤ r.x → r.x ≤ (nine_of r).x + 8
+nine_low r u p x = cases (dec_lt ((nine_of r).x + 8) r.x)
+  where
+    clash : (k m y z : ℕ) → k < 1000000000 → 0 < m → y + 9 ≤ z → k * 10 ^ y ≡ m * 10 ^ z → ⊥
+    clash k m y z l g h e =
+        let a = rw (pow-add 10 y 9) at (pow-le-pow_right {n = 10} (lit< tt) {i = y + 9} {j = z} h) in
+        let b = mul-le-mul_right (10 ^ z) g in
+        let c = mul-lt-mul_of_pos_right {k = 10 ^ y} l (pow_ten_pos y) in
+        omega (arith, a, b, c, e)
+
+    cases : Dec ((nine_of r).x + 8 < r.x) → r.x ≤ (nine_of r).x + 8
+    cases (yes l) = absurd (clash (nine_of r).m r.m (nine_of r).x r.x (nine_result r u).most p (omega (arith, l)) (nine_worth r u x))
+    cases (no n) = omega (arith, n)

@@ -14,8 +14,8 @@ use Rattle.inputs.specs.Rules.{lacks_factor, contaminant_fits}
 use Rattle.factors.specs.declared.numbers.ContaminantNumbers.{ContaminantNumbers}
 use Rattle.terms.specs.declared.pathways.PathwayTerms.{PathwayTerms}
 use Rattle.terms.specs.Side.{Terms}
-use Rattle.inputs.specs.Limits.{input_width, sum_width}
 use Rattle.factors.specs.Stands.{Stands, NumbersFor, Input}
+use Rattle.factors.specs.Widths.{input_width, sum_width}
 use Rattle.terms.specs.Side.{TermsFor, TotalSize}
 use Rattle.shares.specs.declared.plan.Plan.{Plan}
 use Rattle.shares.specs.declared.Worked.{Worked}

@@ -13,11 +13,12 @@ use Rattle.inputs.specs.declared.Scenario.{Scenario}
 use Rattle.inputs.specs.declared.Contaminant.{Contaminant}
 use Rattle.inputs.specs.Rules.{scenario_fits, lacks_factor, scenario_refusal}
 use Rattle.formulas.specs.Side.{Side}
+use Rattle.formulas.specs.Target.{target_of}
 use Rattle.formulas.specs.Formula.{none}
 use Rattle.formulas.specs.Term.{formulas_for}
 use Rattle.formulas.specs.ExactTerm.{exact_present, exact_term, exact_total, exact_for, any_present}
 use Rattle.guideline_rules.specs.Guideline.{guidelines_sent, guideline_of}
-use Rattle.guideline_rules.specs.Promise.{target_of, pathway_at, Promised}
+use Rattle.guideline_rules.specs.Promise.{pathway_at, Promised}
 use Rattle.formulas.specs.Sides.{side_at}
 use Rattle.guideline_rules.proofs.Accepted.{accepted_inputs}
 use Rattle.guideline_rules.proofs.Promises.{worked, promise, pathway_promises}

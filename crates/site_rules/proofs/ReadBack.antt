@@ -28,8 +28,10 @@ use Rattle.inputs.specs.declared.Contaminant.{Contaminant}
 use Rattle.inputs.specs.Rules.{one_or_two}
 use Rattle.inputs.proofs.Tests.{and_split}
 use Rattle.formulas.specs.Side.{Side, Risk, Hazard}
-use Rattle.formulas.specs.Formula.{Formula, none, TR, THI}
-use Rattle.formulas.specs.Term.{look, term_of, total_of, formulas_for, values_for}
+use Rattle.formulas.specs.Formula.{Formula, none}
+use Rattle.formulas.specs.Target.{working_target}
+use Rattle.decimal.specs.Range.{Range}
+use Rattle.formulas.specs.Term.{term_of, total_of, formulas_for, values_for}
 use Rattle.fields.specs.Fields.{InField}
 use Rattle.guideline_rules.specs.Answer.{Guidelines}
 use Rattle.guideline_rules.specs.Guideline.{side_of, side_decimals, all_ranged, guidelines_sent, guideline_of}
@@ -90,7 +92,7 @@ module _ (vs : List Decimal) (tr thi : Decimal) (fs gs : List Formula) (r : all_
   all_fit (suc (suc (suc (suc (suc (suc (suc (suc n)))))))) = record { word = omega arith; exponent = refl }
 
 -- ---- a sum fits its field
-value_fits : {w : ℕ} {d : Decimal} → Value w d → InField d
+value_fits : {w : Range} {d : Decimal} → Value w d → InField d
 value_fits (absent e) = record { word = rw e (omega arith); exponent = rw e }
 value_fits {w} {d} (known v) = record { word = omega (arith, v.nine.most); exponent = (value_inside (known v)).inside }
 
@@ -135,7 +137,7 @@ module _ (site out : List ℕ) (z : number_of (site_answer site (length out)) �
         let a = accepted_inputs s medium r (opened_fits o) (opened_known o) (passed.records k first last).fits in
         subst (λ (g : Result Guidelines Refused). (n : ℕ) → InField (get_or (guideline_decimals (guidelines_sent g).risk (guidelines_sent g).hazard) n zero_of))
         (sym (accepted_is s medium r (site_guidelines site (length out) z k first last)))
-        (all_fit vs (look vs TR) (look vs THI) (formulas_for s medium r Risk) (formulas_for s medium r Hazard) (ranged s medium r a Risk) (ranged s medium r a Hazard))
+        (all_fit vs (working_target s Risk) (working_target s Hazard) (formulas_for s medium r Risk) (formulas_for s medium r Hazard) (ranged s medium r a Risk) (ranged s medium r a Hazard))
 
     class_most : r.class ≤ 2
     class_most = at_most_two r.class (and_split (one_or_two r.class) _ (passed.records k first last).fits).0

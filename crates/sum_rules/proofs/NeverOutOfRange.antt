@@ -4,7 +4,7 @@ use mathlib.Core.Bool.{Bool, true, false, false≢true, cond, not}
 use mathlib.Core.List.{List, [], ◌∷◌}
 use Prim.Native.Nat.{ℕ, ◌+◌, ◌≤◌}
 use native.Mathlib.Omega.{arith}
-use lib.Dec.{eqb, leb}
+use lib.Dec.{eqb, leb, lit≤}
 use lib.ListN.{length}
 use borrow.Author.Tests.{eq-eqb, leb-true}
 use Rattle.decimal.proofs.Value.{Value, value_most, fair_value}
@@ -17,7 +17,7 @@ use Rattle.outcome.proofs.Tests.{all_numbers, refused_number, passing_other}
 use Rattle.inputs.specs.declared.Scenario.{Scenario}
 use Rattle.inputs.specs.declared.Contaminant.{Contaminant}
 use Rattle.inputs.specs.Rules.{contaminant_fits, most_contaminants}
-use Rattle.inputs.specs.Limits.{sum_width}
+use Rattle.formulas.specs.Limits.{sum_range}
 use Rattle.inputs.proofs.Tests.{and_split}
 use Rattle.formulas.specs.Side.{Side, Risk, Hazard}
 use Rattle.guideline_rules.specs.Pathway.{record_tests, record_refusal}
@@ -35,12 +35,12 @@ use Rattle.sum_rules.proofs.InRange.{FairRun, fair_start, fair_next, in_range_le
 -- ---- the reported sums
 -- zero, or nine digits with an e from -999 to 999
 pub record RangedSums (t : SideSent) : Type 0 where
-  pub lower : Value sum_width t.lower
-  pub upper : Value sum_width t.upper
+  pub lower : Value sum_range t.lower
+  pub upper : Value sum_range t.upper
 
 run_ranged : (s : Scenario) (medium : ℕ) (side : Side) (rs : List Contaminant) → AllAccepted s medium rs → (n : ℕ) (t : Running) → n + length rs ≤ most_contaminants → FairRun n t →
     RangedSums (sent_of (side_sums s side (run_all s medium side t rs)))
-run_ranged s medium side [] nobody n t h f = record { lower = value_most (omega arith) (fair_value f.lower); upper = value_most (omega arith) (fair_value f.upper) }
+run_ranged s medium side [] nobody n t h f = record { lower = value_most (record { low = lit≤ tt; high = omega arith }) (fair_value f.lower); upper = value_most (record { low = lit≤ tt; high = omega arith }) (fair_value f.upper) }
 run_ranged s medium side (r ∷ rs) (also a as') n t h f = run_ranged s medium side rs as' (n + 1) (next s medium side t r) (omega arith) (fair_next s medium side r a (omega arith) f)
 
 pub sums_ranged : (s : Scenario) (medium : ℕ) (rs : List Contaminant) → number_of (sums_of s medium rs) ≡ 0 → (side : Side) → RangedSums (side_sent (sums_of s medium rs) side)

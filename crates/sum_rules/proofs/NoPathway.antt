@@ -11,6 +11,7 @@ use Rattle.decimal.specs.declared.Decimal.{Decimal}
 use Rattle.decimal.specs.Decimal.{zero_of, add_of}
 use Rattle.decimal.specs.Fraction.{Fraction, nothing, plus}
 use Rattle.decimal.specs.Lists.{plus_all}
+use Rattle.decimal.specs.Range.{Range}
 use Rattle.decimal.proofs.Approximation.{Fair, add_zeros}
 use Rattle.decimal.proofs.Approximation.Fair.{none, some}
 use Rattle.outcome.specs.Outcome.{number_of}
@@ -50,7 +51,7 @@ absent_share s medium side r h =
     ap (λ (n : ℕ). c * n) (absent_terms (exact_for s r) (formulas_for s medium r side) nothing refl h) ∙ mul-zero c
 
 -- ---- rounded: what stands for zero is (0, 0)
-fair_none : {dir : Direction} {k w : ℕ} {d : Decimal} {q : Fraction} → Fair dir k w d q → q.top ≡ 0 → d ≡ zero_of
+fair_none : {dir : Direction} {k : ℕ} {w : Range} {d : Decimal} {q : Fraction} → Fair dir k w d q → q.top ≡ 0 → d ≡ zero_of
 fair_none (none e t b) h = e
 fair_none (some f) h = absurd (omega (arith, f.top, h))
 

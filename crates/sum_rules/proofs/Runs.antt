@@ -29,7 +29,7 @@ use Rattle.guideline_rules.specs.Pathway.{has_pathway}
 use Rattle.guideline_rules.proofs.Accepted.{Accepted, Fits, accepted_inputs, scenario_passed, values_of_lem}
 use Rattle.guideline_rules.proofs.WorkedOut.{any_same}
 use Rattle.sum_rules.specs.Answer.{Sums}
-use Rattle.sum_rules.specs.Share.{Running, start, next, run_all, share_of}
+use Rattle.sum_rules.specs.Share.{Running, run_sum, start, next, run_all, share_of}
 use Rattle.sum_rules.specs.ListCall.{side_sums, accepted, first_refusal, taken_in, walk, sums_of}
 use Rattle.sum_rules.specs.Promise.{some_pathway, sent_of, side_sent}
 use Rattle.sum_rules.proofs.TakenIn.{taken_passed}
@@ -37,10 +37,6 @@ use Rattle.sum_rules.proofs.ShareBounds.{AllAccepted}
 use Rattle.sum_rules.proofs.ShareBounds.AllAccepted.{nobody, also}
 
 -- ---- the running sums of a side over a list: once for the lower sum, rounded down, and the upper sum, rounded up
-abbrev pub run_sum : Direction → Running → Decimal
-run_sum Down t = t.lower
-run_sum Up t = t.upper
-
 -- a step adds the share of a record
 pub next_sum : (dir : Direction) (s : Scenario) (medium : ℕ) (side : Side) (t : Running) (r : Contaminant) →
     run_sum dir (next s medium side t r) ≡ add_of (run_sum dir t) (share_of s medium r dir side) dir

@@ -20,6 +20,7 @@ use Rattle.decimal.specs.Decimal.{value_of, at_most_of}
 use Rattle.decimal.specs.Fraction.{Fraction, given, times, plus, AtMost}
 use Rattle.decimal.specs.Exponent.{raise}
 use Rattle.decimal.specs.Lists.{plus_all}
+use Rattle.decimal.specs.Range.{Range}
 use Rattle.decimal.proofs.Laws.{Operable, working_value}
 use Rattle.decimal.proofs.Approximation.{Fair, fair_operable, working_fair}
 use Rattle.decimal.proofs.Approximation.Fair.{none, some}
@@ -28,19 +29,20 @@ use Rattle.inputs.specs.declared.Scenario.{Scenario}
 use Rattle.inputs.specs.declared.Contaminant.{Contaminant}
 use Rattle.inputs.specs.Inputs.{scenario_decimals}
 use Rattle.inputs.specs.Valid.{all_valid}
-use Rattle.inputs.specs.Limits.{sum_roundings, sum_width}
-use Rattle.inputs.proofs.Tests.{Small, and_split, valid_small, target_parts}
-use Rattle.formulas.specs.Side.{Side, Risk, Hazard}
+use Rattle.formulas.specs.Limits.{sum_roundings, sum_range}
+use Rattle.inputs.proofs.Tests.{Small, and_split, valid_small}
+use Rattle.formulas.specs.Side.{Side}
 use Rattle.formulas.proofs.TermBounds.{fair_bottom}
-use Rattle.guideline_rules.specs.Promise.{target_of}
+use Rattle.formulas.specs.Target.{target_of, working_target}
+use Rattle.formulas.proofs.ValueBounds.{target_valid}
 use Rattle.sum_rules.specs.declared.Verdict.TheVariants.{Within as WithinV, Above, Undecided, NoPathway}
-use Rattle.sum_rules.specs.Share.{Running, start, exact_used, exact_share, run_all}
+use Rattle.sum_rules.specs.Share.{Running, run_sum, start, exact_used, exact_share, run_all}
 use Rattle.sum_rules.specs.Verdict.{verdict_number, verdict_of}
-use Rattle.sum_rules.specs.ListCall.{working_target, side_sums, sums_of}
+use Rattle.sum_rules.specs.ListCall.{side_sums, sums_of}
 use Rattle.sum_rules.specs.Promise.{exact_sum, some_pathway, no_concentration, sent_of, side_sent, more, less, Enclosed, MoreThan, Judged}
 use Rattle.sum_rules.proofs.ShareBounds.{AllAccepted, list_bounds}
 use Rattle.sum_rules.proofs.ShareBounds.AllAccepted.{nobody, also}
-use Rattle.sum_rules.proofs.Runs.{run_sum, run_start, run_any, AcceptedList, accepted_list}
+use Rattle.sum_rules.proofs.Runs.{run_start, run_any, AcceptedList, accepted_list}
 
 -- ---- a sum is on its side of the exact sum, within 2/1,000,000 of it: once for both directions
 -- 1 - 2/1,000,000 for a sum rounded down, 1 + 2/1,000,000 for one rounded up
@@ -66,14 +68,14 @@ bound_core Down f = let h = parts sum_roundings (sum_roundings + 1) tt f.within 
 bound_core Up f = let h = parts sum_roundings (sum_roundings + 1) tt f.within in record { side = omega arith }
 
 -- what stands for a fraction is near it, zero included
-fair_near : {dir : Direction} {k w : ℕ} {d : Decimal} {q : Fraction} → Fair dir k w d q → Directed dir k (value_of d * q.bottom) (q.top * one)
+fair_near : {dir : Direction} {k : ℕ} {w : Range} {d : Decimal} {q : Fraction} → Fair dir k w d q → Directed dir k (value_of d * q.bottom) (q.top * one)
 fair_near {dir} {k} {w} {d} {q} (none e t b) =
     let z : value_of d ≡ 0 = ap value_of e ∙ zero-mul (10 ^ 3000) in
     directed_same dir k _ _ (omega (arith, ap (λ (n : ℕ). n * q.bottom) z, ap (λ (n : ℕ). n * one) t))
 fair_near (some f) = f.near
 
 -- what stands for a fraction by so many roundings is close to it
-close : (dir : Direction) {w : ℕ} (d : Decimal) (q : Fraction) → Fair dir sum_roundings w d q → Close dir d q
+close : (dir : Direction) {w : Range} (d : Decimal) (q : Fraction) → Fair dir sum_roundings w d q → Close dir d q
 unfolding given
 close dir d q f =
     let h = fair_near f in
@@ -142,8 +144,7 @@ module _ (target : Decimal) {lower upper : Decimal} {q t : Fraction} (l : Close 
 
 -- ---- the targets
 target_small : (s : Scenario) → all_valid (scenario_decimals s) ≡ true → (side : Side) → Small (target_of s side)
-target_small s v Risk = valid_small s.targets.tr (target_parts s v).0
-target_small s v Hazard = valid_small s.targets.thi (target_parts s v).1
+target_small s v side = valid_small (target_of s side) (target_valid s v side)
 
 given_same : (a b : Decimal) → value_of a ≡ value_of b → given a ≡ given b
 unfolding given
@@ -161,7 +162,7 @@ zero_sum s medium side (r ∷ rs) p e h =
     let z = zero_share s medium side r (eqb-true r.c.m 0 k.0) in
     zero_sum s medium side rs (plus p (exact_share s medium side r)) (rw (e, z, zero-mul (exact_share s medium side r).bottom, zero-mul p.bottom)) k.1
 
-upper_zero : {w : ℕ} {d : Decimal} {q : Fraction} → Fair Up sum_roundings w d q → q.top ≡ 0 → value_of d ≡ 0
+upper_zero : {w : Range} {d : Decimal} {q : Fraction} → Fair Up sum_roundings w d q → q.top ≡ 0 → value_of d ≡ 0
 upper_zero (none e t b) h = ap value_of e ∙ zero-mul (10 ^ 3000)
 upper_zero (some f) h = absurd (omega (arith, f.top, h))
 
@@ -178,9 +179,9 @@ module _ (s : Scenario) (medium : ℕ) (rs : List Contaminant) (h : number_of (s
   run = run_all s medium side start rs
 
   -- the sum of a direction stands for the exact sum
-  fair_run : (dir : Direction) → Fair dir sum_roundings sum_width (run_sum dir run) (exact_sum s medium side rs)
+  fair_run : (dir : Direction) → Fair dir sum_roundings sum_range (run_sum dir run) (exact_sum s medium side rs)
   unfolding run
-  fair_run dir = subst (λ (d : Decimal). Fair dir sum_roundings sum_width d (exact_sum s medium side rs)) (sym (run_start dir s medium side rs)) (list_bounds s medium side dir rs p.all p.most)
+  fair_run dir = subst (λ (d : Decimal). Fair dir sum_roundings sum_range d (exact_sum s medium side rs)) (sym (run_start dir s medium side rs)) (list_bounds s medium side dir rs p.all p.most)
 
   -- and is within 2/1,000,000 of it
   close_run : (dir : Direction) → Close dir (run_sum dir run) (exact_sum s medium side rs)

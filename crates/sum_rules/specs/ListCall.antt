@@ -2,7 +2,6 @@
 use Rattle.std.specs.Prelude.{Bool, cond, not, ◌&&◌, List, [], ◌∷◌, ◌++◌, ℕ, ◌+◌, leb, length, get_or, Result, Ok, ⊤}
 use Rattle.rounding.specs.declared.Direction.TheVariants.{Down, Up}
 use Rattle.decimal.specs.declared.Decimal.{Decimal}
-use Rattle.decimal.specs.Decimal.{working_of}
 use Rattle.outcome.specs.declared.Refusal.{Refusal}
 use Rattle.outcome.specs.declared.Refused.{Refused}
 use Rattle.outcome.specs.declared.Refusal.TheVariants.{Length, Field, Order, Range}
@@ -11,19 +10,15 @@ use Rattle.inputs.specs.declared.Scenario.{Scenario}
 use Rattle.inputs.specs.declared.Contaminant.{Contaminant}
 use Rattle.inputs.specs.Rules.{scenario_tests, contaminant_fits, most_contaminants}
 use Rattle.formulas.specs.Side.{Side, Risk, Hazard}
+use Rattle.formulas.specs.Target.{working_target}
 use Rattle.formulas.specs.Formula.{none}
 use Rattle.formulas.specs.Term.{term_of, formulas_for, values_for}
 use Rattle.guideline_rules.specs.Pathway.{record_refusal}
 use Rattle.guideline_rules.specs.Guideline.{all_ranged, side_decimals}
-use Rattle.guideline_rules.specs.Promise.{target_of}
 use Rattle.sum_rules.specs.declared.SideSums.{SideSums}
 use Rattle.sum_rules.specs.Answer.{Sums}
 use Rattle.sum_rules.specs.Share.{Running, start, next, term_sum, share_of}
 use Rattle.sum_rules.specs.Verdict.{verdict_of}
-
--- the target in its working form
-abbrev pub working_target : Scenario → Side → Decimal
-working_target s side = working_of (target_of s side)
 
 -- the lower terms of a side and their sum, the two shares, the two running sums
 abbrev pub sum_decimals : Scenario → ℕ → Side → Running → Contaminant → List Decimal

@@ -30,6 +30,11 @@ pub record Running : Type 0 where
   pub upper : Decimal
   pub any : Bool
 
+-- the sum of a direction: the lower is rounded down, the upper up
+abbrev pub run_sum : Direction → Running → Decimal
+run_sum Down t = t.lower
+run_sum Up t = t.upper
+
 abbrev pub start : Running
 start = record { lower = zero_of; upper = zero_of; any = false }
 

@@ -7,7 +7,7 @@ use Rattle.rounding.specs.declared.Number.{Number}
 use Rattle.rounding.specs.Number.{at_most_of as numbers_at_most}
 use Rattle.decimal.specs.Decimal.{decimal_of, Printable, at_most_of}
 use Rattle.decimal.proofs.Laws.{decimal_worth, decimal_operable}
-use Rattle.inputs.specs.Limits.{sum_width}
+use Rattle.factors.specs.Widths.{sum_width}
 use Rattle.factors.proofs.StandsLaws.{stands_operand, stands_most}
 use Rattle.shares.specs.Runs.{Runs}
 use Rattle.sums.specs.State.{Comparable, RunsReady}

@@ -11,7 +11,7 @@ use Rattle.rounding.specs.Operations.{product_of, sum_of}
 use Rattle.inputs.specs.declared.Scenario.{Scenario}
 use Rattle.inputs.specs.declared.Contaminant.{Contaminant}
 use Rattle.terms.specs.declared.pathways.PathwayTerms.{PathwayTerms}
-use Rattle.inputs.specs.Limits.{input_width, formula_width, share_width, sum_width}
+use Rattle.factors.specs.Widths.{input_width, formula_width, share_width, sum_width}
 use Rattle.formulas.specs.Side.{Side}
 use Rattle.formulas.specs.Term.{formulas_for, values_for}
 use Rattle.factors.specs.Stands.{Stands}
@@ -22,8 +22,8 @@ use Rattle.guideline.proofs.ColumnBounds.{SideStands, sum_stands, stands_zero}
 use Rattle.guideline_rules.specs.Pathway.{has_pathway}
 use Rattle.guideline_rules.proofs.WorkedOut.{any_total}
 use Rattle.shares.specs.declared.SideRun.{SideRun}
-use Rattle.sum_rules.specs.Share.{Running, next, term_sum, used_of, share_of}
-use Rattle.sum_rules.proofs.Runs.{run_sum, next_sum}
+use Rattle.sum_rules.specs.Share.{Running, run_sum, next, term_sum, used_of, share_of}
+use Rattle.sum_rules.proofs.Runs.{next_sum}
 use Rattle.shares.specs.Plan.{running_of, Shared}
 use Rattle.sums.specs.State.{SideReady}
 

@@ -15,7 +15,7 @@ use Rattle.inputs.specs.Rules.{contaminant_fits}
 use Rattle.factors.proofs.StandsLaws.{zero_stands, stands_most}
 use Rattle.shares.specs.declared.plan.Plan.{Plan}
 use Rattle.sums.specs.declared.State.{State}
-use Rattle.inputs.specs.Limits.{share_width}
+use Rattle.factors.specs.Widths.{share_width}
 use Rattle.guideline_rules.specs.Pathway.{record_refusal}
 use Rattle.shares.specs.Plan.{no_runs}
 use Rattle.sums.specs.State.{steps, answer_from, RunsReady, Good, Moved, Stopped}

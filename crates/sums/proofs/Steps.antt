@@ -9,7 +9,7 @@ use Rattle.rounding.specs.Operations.{sum_of}
 use Rattle.std.specs.Prelude.{Ok}
 use Rattle.inputs.specs.declared.Contaminant.{Contaminant}
 use Rattle.inputs.specs.Rules.{most_contaminants}
-use Rattle.inputs.specs.Limits.{share_width, sum_width}
+use Rattle.factors.specs.Widths.{share_width, sum_width}
 use Rattle.formulas.specs.Side.{Risk, Hazard}
 use Rattle.formulas.specs.Term.{values_for}
 use Rattle.guideline_rules.specs.Pathway.{record_refusal}

@@ -9,8 +9,9 @@ use Rattle.outcome.specs.Outcome.{refused, passing}
 use Rattle.inputs.specs.declared.Scenario.{Scenario}
 use Rattle.inputs.specs.declared.Contaminant.{Contaminant}
 use Rattle.inputs.specs.Rules.{contaminant_fits, most_contaminants, lacks_factor}
-use Rattle.inputs.specs.Limits.{share_width, sum_width}
+use Rattle.factors.specs.Widths.{share_width, sum_width}
 use Rattle.formulas.specs.Side.{Risk, Hazard}
+use Rattle.formulas.specs.Target.{working_target}
 use Rattle.guideline_rules.specs.Pathway.{record_refusal}
 use Rattle.factors.specs.Stands.{Stands}
 use Rattle.shares.specs.declared.plan.Plan.{Plan}
@@ -21,7 +22,7 @@ use Rattle.sum_rules.specs.declared.SideSums.{SideSums}
 use Rattle.sum_rules.specs.Answer.{Sums}
 use Rattle.sum_rules.specs.Verdict.{verdict_of}
 use Rattle.sum_rules.specs.Share.{Running, next}
-use Rattle.sum_rules.specs.ListCall.{working_target, accepted}
+use Rattle.sum_rules.specs.ListCall.{accepted}
 use Rattle.shares.specs.Plan.{no_runs, running_of}
 
 -- the records one by one without condition 9, which cannot hold (proofs/InRange.antt)

@@ -2,7 +2,7 @@
 #![tactic(auto)]
 
 ghost use Rattle.std.specs.Prelude.{◌≡◌, [], Ok};
-ghost use Rattle.inputs.specs.Limits.{sum_width};
+ghost use Rattle.factors.specs.Widths.{sum_width};
 ghost use Rattle.sum_rules.specs.Verdict.{verdict_number, verdict_of};
 ghost use Rattle.decimal.specs.Decimal.{decimal_of};
 ghost use Rattle.shares.specs.Plan.{no_runs};

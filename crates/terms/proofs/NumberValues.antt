@@ -1,12 +1,9 @@
--- The values that the code's numbers stand for: every one is zero or has nine digits, and B is what the code adds up. Assumes nothing.
+-- The values that the code's numbers stand for: every one is zero where its m is, and B is what the code adds up. Assumes nothing.
 use mathlib.Core.Path.{◌≡◌, refl, sym, ap, subst, ◌∙◌}
-use mathlib.Core.Bool.{Bool, true, false, cond}
 use mathlib.Core.List.{List, [], ◌∷◌, ◌++◌, map}
 use Prim.Native.Nat.{ℕ, zero, suc, ◌+◌, ◌-◌, ◌≤◌}
-use native.Mathlib.Omega.{arith}
-use lib.Dec.{ltb, lit≤}
-use lib.ListN.{length, get_or}
-use borrow.Author.Tests.{ltb-true, ltb-false}
+use lib.Dec.{lit≤}
+use lib.ListN.{get_or}
 use Rattle.rounding.specs.declared.Direction.{Direction}
 use Rattle.rounding.specs.declared.Number.{Number}
 use Rattle.rounding.specs.Direction.{opposite}
@@ -19,7 +16,7 @@ use Rattle.factors.specs.declared.numbers.Factors.{Factors}
 use Rattle.factors.specs.declared.numbers.ContaminantNumbers.{ContaminantNumbers}
 use Rattle.factors.specs.declared.prepared.Prepared.{Prepared}
 use Rattle.terms.specs.declared.pathways.PathwayTerms.{PathwayTerms}
-use Rattle.inputs.specs.Limits.{input_width, part_roundings, part_width, worked_width, formula_roundings, formula_width, two_width}
+use Rattle.factors.specs.Widths.{input_width, formula_width, two_width}
 use Rattle.formulas.specs.Side.{Side, Hazard}
 use Rattle.formulas.specs.Formula.{◌÷◌, none, B, One, VF, PEF, no_pathways, table, pathways_of, derived, derived_places}
 use Rattle.formulas.specs.Term.{look, constants, present_of, evaluated, term_of, total_of}
@@ -27,13 +24,10 @@ use Rattle.factors.specs.Stands.{Stands, StandAll, factor_numbers, contaminant_n
 use Rattle.factors.specs.Stands.StandAll.{end, next}
 use Rattle.factors.specs.Prepared.{Middle, unit}
 use Rattle.terms.specs.Side.{number_inputs, number_values, Ready, SideFor, no_side}
-use Rattle.decimal.proofs.Value.{Value, skip_first, skip_next, value_most}
+use Rattle.decimal.proofs.Value.{skip_first, skip_next, value_zero}
 use Rattle.factors.proofs.StandsLaws.{no_number, zero_stands, stands_at, stands_join, stands_operand, stands_middle, stands_value, stands_most, stands_is, stands_div, stands_add, stands_mul3}
-use Rattle.decimal.proofs.Value.Value.{absent}
 use Rattle.factors.proofs.Constants.{num, unit_stands, millionth_stands, thousandth_stands, half_stands, hours_stands, days_stands}
-use Rattle.formulas.proofs.Sound.{is_derived, width_of, table_sound, sound_at_lem, none_sound}
-use Rattle.formulas.proofs.Presence.{term_evaluated}
-use Rattle.formulas.proofs.ValueBounds.{shorter}
+use Rattle.formulas.proofs.Presence.{ZeroByDigits, term_evaluated}
 
 -- ---- the code's numbers in the order of the table's names, from the first constant
 abbrev constant_numbers : List Number
@@ -45,18 +39,15 @@ constants_stand = next unit_stands (next millionth_stands (next thousandth_stand
 abbrev pub numbers : Factors → ContaminantNumbers → List Number
 numbers f t = constant_numbers ++ (factor_numbers f ++ contaminant_numbers t)
 
--- values of the factors that are worked out, or zeros, in front
+-- the values of the factors that are worked out, or zeros, in front
 data Front : List Decimal → Type 0 where
   bare : Front []
-  worked : {d : Decimal} {ds : List Decimal} → Value worked_width d → Front ds → Front (d ∷ ds)
+  worked : {d : Decimal} {ds : List Decimal} → ZeroByDigits d → Front ds → Front (d ∷ ds)
 
-fronted : {ds : List Decimal} → Front ds → (l : List Decimal) → ((n : ℕ) → Value input_width (look l n)) → (n : ℕ) (b : Bool) → ltb n (length ds) ≡ b →
-    Value (cond b worked_width input_width) (look (ds ++ l) n)
-fronted bare l vs n true e = absurd (omega (arith, ltb-true n 0 e))
-fronted bare l vs n false e = vs n
-fronted (worked v vs) l is zero true e = v
-fronted (worked {ds = ds} v vs) l is zero false e = absurd (omega (arith, ltb-false 0 (suc (length ds)) e))
-fronted (worked {ds = ds} v vs) l is (suc n) b e = fronted vs l is n b (shorter n (length ds) b e)
+fronted : {ds : List Decimal} → Front ds → (l : List Decimal) → ((n : ℕ) → ZeroByDigits (look l n)) → (n : ℕ) → ZeroByDigits (look (ds ++ l) n)
+fronted bare l vs n = vs n
+fronted (worked v vs) l is zero = v
+fronted (worked v vs) l is (suc n) = fronted vs l is n
 
 -- the k-th place behind so many
 abbrev pub behind : ℕ → ℕ → ℕ
@@ -81,24 +72,24 @@ module _ {dir : Direction} {p : Prepared} {t : ContaminantNumbers} (r : Ready di
   pub range : (n : ℕ) → InRange (get_or (numbers f t) (n - derived_places) no_number)
   range n = (stands_operand (lit≤ tt) (input n)).range
 
-  input_known : (n : ℕ) → Value input_width (look (number_inputs f t) n)
-  input_known n = stands_value (lit≤ tt) (stands_at inputs_stand n)
+  input_known : (n : ℕ) → ZeroByDigits (look (number_inputs f t) n)
+  input_known n = value_zero (stands_value (lit≤ tt) (stands_at inputs_stand n))
 
   plain : List Decimal
   plain = zero_of ∷ number_inputs f t
 
-  plain_known : (n : ℕ) → Value (width_of n) (look plain n)
+  plain_known : (n : ℕ) → ZeroByDigits (look plain n)
   unfolding plain
-  plain_known n = fronted (worked (absent refl) bare) (number_inputs f t) input_known n (is_derived n) refl
+  plain_known n = fronted (worked (λ e. refl) bare) (number_inputs f t) input_known n
 
   -- the two parts of B
   vf_term : term_of plain dir ((One ∷ []) ÷ (VF ∷ [])) ≡ div_of unit (decimal_of t.transfer.vf) dir
   unfolding plain
-  vf_term = term_evaluated dir plain plain_known {k = part_roundings} {w = part_width} ((One ∷ []) ÷ (VF ∷ [])) (record { near = lit≤ tt; wide = lit≤ tt; clean = refl }) (lit≤ tt)
+  vf_term = term_evaluated plain plain_known dir ((One ∷ []) ÷ (VF ∷ []))
 
   pef_term : term_of plain dir ((One ∷ []) ÷ (PEF ∷ [])) ≡ div_of unit (decimal_of f.contact.pef) dir
   unfolding plain
-  pef_term = term_evaluated dir plain plain_known {k = part_roundings} {w = part_width} ((One ∷ []) ÷ (PEF ∷ [])) (record { near = lit≤ tt; wide = lit≤ tt; clean = refl }) (lit≤ tt)
+  pef_term = term_evaluated plain plain_known dir ((One ∷ []) ÷ (PEF ∷ []))
 
   -- what the code adds up
   unfoldable pub air_number : Number
@@ -120,18 +111,17 @@ module _ {dir : Direction} {p : Prepared} {t : ContaminantNumbers} (r : Ready di
   unfolding air_number
   air_stands = stands_is (sym added) (stands_add dir vf_stands r.prepared.inverse_pef (lit≤ tt) (lit≤ tt) refl)
 
-  -- every value is zero or has nine digits
-  values_known : (n : ℕ) → Value (width_of n) (look (number_values dir f t) n)
+  -- every value is zero where its m is
+  values_known : (n : ℕ) → ZeroByDigits (look (number_values dir f t) n)
   unfolding number_values derived
-  values_known n = fronted (worked (value_most (lit≤ tt) (stands_value (lit≤ tt) air_stands)) bare) (number_inputs f t) input_known n (is_derived n) refl
+  values_known n = fronted (worked (value_zero (stands_value (lit≤ tt) air_stands)) bare) (number_inputs f t) input_known n
 
   -- ---- a number that stands for a formula's value stands for its term
   pub side_term : (medium class : ℕ) (side : Side) (n : ℕ) {w : ℕ} {x : Number} → w ≤ formula_width →
       Stands w x (evaluated (number_values dir f t) dir (get_or (pathways_of medium class side) n none)) →
       Stands formula_width x (term_of (number_values dir f t) dir (get_or (pathways_of medium class side) n none))
   side_term medium class side n h s =
-      let sound = sound_at_lem (table_sound medium class side) (none_sound formula_roundings formula_width (lit≤ tt) (lit≤ tt)) n in
-      stands_most h (stands_is (sym (term_evaluated dir (number_values dir f t) values_known (get_or (pathways_of medium class side) n none) sound (lit≤ tt))) s)
+      stands_most h (stands_is (sym (term_evaluated (number_values dir f t) values_known dir (get_or (pathways_of medium class side) n none))) s)
 
 -- the product of the factors that are named, and of those after the stroke
 abbrev pub named : Direction → Prepared → ContaminantNumbers → List ℕ → Decimal

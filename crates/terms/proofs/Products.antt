@@ -10,7 +10,7 @@ use Rattle.rounding.specs.declared.Number.{Number}
 use Rattle.rounding.specs.Direction.{opposite}
 use Rattle.rounding.specs.Operations.{product_of}
 use Rattle.rounding.specs.Number.{InRange}
-use Rattle.inputs.specs.Limits.{input_width, two_width, three_width, middle_width}
+use Rattle.factors.specs.Widths.{input_width, two_width, three_width, middle_width}
 use Rattle.decimal.specs.declared.Decimal.{Decimal}
 use Rattle.decimal.specs.Decimal.{mul_of}
 use Rattle.formulas.specs.Formula.{derived_places}

@@ -13,7 +13,7 @@ use Rattle.formulas.specs.declared.Sides.{Sides}
 use Rattle.formulas.specs.Side.{Risk, Hazard}
 use Rattle.formulas.specs.Formula.{Formula, B, none, pathways_of, derived}
 use Rattle.formulas.specs.Term.{look, constants, total_of, term_of}
-use Rattle.inputs.specs.Limits.{formula_width, two_width}
+use Rattle.factors.specs.Widths.{formula_width, two_width}
 use Rattle.factors.specs.Stands.{Stands, factor_numbers, contaminant_numbers, ReadyNumbers}
 use Rattle.factors.specs.Prepared.{PreparedFor}
 

@@ -3,7 +3,7 @@ use Rattle.std.proofs.Common.{◌+◌, sym, ap, subst, ◌∙◌}
 use lib.Dec.{lit≤}
 use Rattle.rounding.specs.declared.Number.{Number}
 use Rattle.rounding.specs.Operations.{sum_of}
-use Rattle.inputs.specs.Limits.{two_width}
+use Rattle.factors.specs.Widths.{two_width}
 use Rattle.formulas.specs.Formula.{B, One, VF}
 use Rattle.formulas.specs.Term.{look}
 use Rattle.factors.specs.Stands.{Stands}
