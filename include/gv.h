@@ -24,7 +24,7 @@ enum {
     GV_GUIDELINES = 64     /* bytes that gv_guideline writes: eight decimals */
 };
 
-/* What a call sends back: 0, or the number of a refusal. */
+/* What a call sends back: 0, or the number of one of the ten refusals, 1 to 8, 10 and 11. 9 is not used. */
 enum {
     GV_ACCEPTED = 0,
     GV_LENGTH = 1,    /* the site's length is wrong */
@@ -35,7 +35,6 @@ enum {
     GV_FACTOR = 6,    /* EF, ED, BW, AT, TR or THI is zero */
     GV_ORDER = 7,     /* an id is not above the one before */
     GV_PATHWAY = 8,   /* a contaminant has no pathway on either side */
-    GV_RANGE = 9,     /* an exponent is out of range: proved not to occur */
     GV_ROOM = 10,     /* the output is too short */
     GV_SCENARIO = 11  /* there is no built-in scenario of that number */
 };

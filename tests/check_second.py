@@ -1,4 +1,4 @@
-"""Checks the second calculation itself: the figures that the specification marks, the widest exponents, demand 3 on random lists.
+"""Checks the second calculation itself: the figures that the specification marks, the least and greatest inputs, demand 3 on random lists.
 
     python3 tests/check_second.py 300 1        300 lists from seed 1
 
@@ -55,7 +55,7 @@ def marked_figures():
     yield from office_figures()
 
 
-def widest_cases():
+def extreme_cases():
     """For each formula the least factors before the stroke and the greatest after it, and the reverse; each target, each C.
 
     B is least where VF and PEF are greatest. A decimal on the way with an e outside -999 to 999 is an error (second/steps.py).
@@ -69,9 +69,9 @@ def widest_cases():
             yield Case(medium, values, {**values, "class": klass, "id": 1})
 
 
-def widest_wrong():
-    """What does not hold of these: every widest case is accepted, and an e of 1990 on the way is an error."""
-    for case in widest_cases():
+def extreme_wrong():
+    """What does not hold of these: every extreme case is accepted, and an e of 1990 on the way is an error."""
+    for case in extreme_cases():
         if guideline(case.scenario, case.medium, case.record).refusal or sums(case.scenario, case.medium, [case.record]).refusal:
             yield f"refused: {case.medium} {case.scenario} {case.record}"
     try:
@@ -106,7 +106,7 @@ def main():
         good = computed == printed
         wrong += not good
         print(f"{name}: {'as printed' if good else f'{computed} in place of {printed}'}")
-    faults = list(widest_wrong())
+    faults = list(extreme_wrong())
     wrong += len(faults)
     print("\n".join(faults) or "least and greatest inputs: every e on the way from -999 to 999")
     source = random.Random(int(sys.argv[2]))

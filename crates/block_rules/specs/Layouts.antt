@@ -9,6 +9,7 @@ use Rattle.inputs.specs.Inputs.{scenario_decimals, contaminant_decimals}
 use Rattle.block_rules.specs.declared.Header.{Header}
 use Rattle.block_rules.specs.Pieces.{Piece, header_pieces, contaminant_pieces, result_pieces, summary_pieces, unused_bytes}
 use Rattle.guideline_rules.specs.declared.SideGuidelines.{SideGuidelines}
+use Rattle.guideline_rules.specs.Steps.{four_of}
 use Rattle.sum_rules.specs.declared.SideSums.{SideSums}
 use Rattle.sum_rules.specs.Verdict.{verdict_number}
 
@@ -42,7 +43,7 @@ contaminant_block place r = block_of 2 place r.class r.id (contaminant_decimals 
 
 -- kind 3, result: risk 1, 2, 3, total, then hazard likewise
 abbrev pub guideline_decimals : SideGuidelines → SideGuidelines → List Decimal
-guideline_decimals r h = r.first ∷ (r.second ∷ (r.third ∷ (r.total ∷ (h.first ∷ (h.second ∷ (h.third ∷ (h.total ∷ [])))))))
+guideline_decimals r h = four_of r ++ four_of h
 
 unfoldable pub result_block : ℕ → ℕ → ℕ → SideGuidelines → SideGuidelines → List ℕ
 result_block place class id risk hazard = block_of 3 place class id (guideline_decimals risk hazard) (unused_of result_pieces)

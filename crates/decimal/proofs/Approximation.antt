@@ -26,7 +26,7 @@ use Rattle.rounding.proofs.NineDigits.{nine_nine, nine_zero, nine_low, nine_resu
 use Rattle.rounding.proofs.Exponents.{product_result, quotient_result, sum_result}
 use Rattle.decimal.specs.declared.Decimal.{Decimal}
 use Rattle.decimal.specs.Exponent.{raise, raised}
-use Rattle.decimal.specs.Range.{Range, ends, operand_range, product_range, quotient_range, further_range, joined_range, added_range, Covers}
+use Rattle.decimal.specs.Range.{Range, ends, operand_range, product_range, quotient_range, joined_range, added_range, Covers}
 use Rattle.decimal.specs.Decimal.{zero_of, biased_of, decimal_of, value_of, are_operands, mul_of, div_of, add_of, working_of}
 use Rattle.decimal.specs.Fraction.{Fraction, given, times, over, plus}
 use Rattle.decimal.specs.Lists.{multiplied, summed, added, times_all, plus_all}
@@ -231,7 +231,7 @@ unfolding add_of
 add_zeros dir = rw operable_zero.tested (decimal_zero (sum_of dir (biased_of zero_of) (biased_of zero_of)) (sum_zero_both dir (biased_of zero_of) (biased_of zero_of) refl refl))
 
 module _ (dir : Direction) {a b : Decimal} {p q : Fraction} {k : ℕ} {w : Range} where
-  pub fair_add : Covers operand_range (added_range 1 w) → Fair dir k w a p → Fair dir k w b q → Fair dir (1 + k) (added_range 1 w) (add_of a b dir) (plus p q)
+  fair_add : Covers operand_range (added_range 1 w) → Fair dir k w a p → Fair dir k w b q → Fair dir (1 + k) (added_range 1 w) (add_of a b dir) (plus p q)
   fair_add h (none e t n) (none f u m) = none (rw (e, f) (add_zeros dir)) (rw (t, u) (omega arith)) (mul-pos n m)
   fair_add h (none e t n) (some g) =
       fair_most dir {j = k} {v = w} (omega arith) (more_covered covers_self) (some (record {
@@ -253,7 +253,7 @@ module _ (dir : Direction) {a b : Decimal} {p q : Fraction} {k : ℕ} {w : Range
 pub data Factors (dir : Direction) : ℕ → Range → List Decimal → List Fraction → Type 0 where
   end : Factors dir 0 (ends 0 0) [] []
   next : {j k : ℕ} {v w : Range} {d : Decimal} {q : Fraction} {ds : List Decimal} {qs : List Fraction} → Approx dir j v d q → Factors dir k w ds qs →
-      Factors dir (1 + j + k) (further_range v w) (d ∷ ds) (q ∷ qs)
+      Factors dir (1 + j + k) (product_range v w) (d ∷ ds) (q ∷ qs)
 
 pub product_approx : (dir : Direction) {i l : ℕ} {u z : Range} {d : Decimal} {q : Fraction} {ds : List Decimal} {qs : List Fraction} →
     Covers operand_range (joined_range u z) → Approx dir i u d q → Factors dir l z ds qs → Approx dir (i + l) (joined_range u z) (multiplied dir d ds) (times_all q qs)

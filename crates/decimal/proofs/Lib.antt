@@ -5,3 +5,4 @@ pub mod CoreOperations
 pub mod Ranges
 pub mod Approximation
 pub mod Value
+pub mod Steps

@@ -49,10 +49,3 @@ raised_inside e = cases (in_range e)
     cases : (b : Bool) → 0 < cond b (raise e) 0 → b ≡ true
     cases true h = refl
     cases false h = absurd (omega (arith, h))
-
-pub record Inside (d : Decimal) : Type 0 where
-  pub inside : in_range d.e ≡ true
-
-pub value_inside : {w : Range} {d : Decimal} → Value w d → Inside d
-value_inside (absent e) = record { inside = rw e }
-value_inside {w} {d} (known s) = record { inside = raised_inside d.e s.some }

@@ -1,5 +1,6 @@
 -- Decimals (docs/SPECIFICATION.md, "Decimals"): the pair (m, e) is worth m * 10^e. What an operand is, and the operations.
-use Rattle.std.specs.Prelude.{Option, Some, None, Bool, cond, not, ◌&&◌, ℕ, ◌≤◌, ◌<◌, ◌-◌, pos, eqb, leb}
+use Rattle.std.specs.Prelude.{Option, Some, None, Bool, cond, not, ◌&&◌, ℕ, ◌≤◌, ◌<◌, ◌-◌, pos, eqb, leb, List}
+use Rattle.std.specs.List.{list_all}
 use Rattle.std.proofs.Math.IntN.{sub_ℕ}
 use Rattle.rounding.specs.Sizes.{nine_digits, ten_digits, bias}
 use Rattle.rounding.specs.declared.Direction.{Direction}
@@ -37,6 +38,10 @@ value_of d = worth (plain_of d)
 -- ---- an operand: a working decimal, (0, 0) or m from 100,000,000 to 999,999,999, with e from -999 to 999
 unfoldable pub is_operand : Number → Bool
 is_operand r = cond (eqb r.m 0) (eqb r.x bias) (leb nine_digits r.m && (leb r.m (ten_digits - 1) && not (eqb r.x 0)))
+
+-- every one of these decimals is an operand
+abbrev pub all_operands : List Decimal → Bool
+all_operands ds = list_all (λ (d : Decimal). is_operand (biased_of d)) ds
 
 abbrev pub are_operands : Decimal → Decimal → Bool
 are_operands a b = is_operand (biased_of a) && is_operand (biased_of b)

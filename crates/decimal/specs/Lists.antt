@@ -24,6 +24,19 @@ abbrev pub added : Direction → Decimal → List Decimal → Decimal
 added dir a [] = a
 added dir a (b ∷ bs) = added dir (add_of a b dir) bs
 
+-- ---- every decimal on the way to a product, and to a sum
+abbrev pub multiplied_steps : Direction → Decimal → List Decimal → List Decimal
+multiplied_steps dir a [] = a ∷ []
+multiplied_steps dir a (b ∷ bs) = a ∷ multiplied_steps dir (mul_of a b dir) bs
+
+abbrev pub product_steps : Direction → List Decimal → List Decimal
+product_steps dir [] = []
+product_steps dir (a ∷ bs) = multiplied_steps dir a bs
+
+abbrev pub summed_steps : Direction → Decimal → List Decimal → List Decimal
+summed_steps dir a [] = a ∷ []
+summed_steps dir a (b ∷ bs) = a ∷ summed_steps dir (cond (eqb b.m 0) a (add_of a b dir)) bs
+
 -- ---- exactly
 abbrev pub times_all : Fraction → List Fraction → Fraction
 times_all p [] = p

@@ -20,10 +20,7 @@ product_range v w = ends (v.below + w.below) (v.above + w.above + 1)
 abbrev pub quotient_range : Range → Range → Range
 quotient_range v w = ends (v.below + w.above + 1) (v.above + w.below)
 
--- what further factors add to the range of a product: the first of them, with what the others add; and the range of the whole product
-abbrev pub further_range : Range → Range → Range
-further_range v w = ends (v.below + w.below) (v.above + 1 + w.above)
-
+-- of a product of more factors: of the first, and of all that the others add, each of them its own range and one above
 abbrev pub joined_range : Range → Range → Range
 joined_range v w = ends (v.below + w.below) (v.above + w.above)
 

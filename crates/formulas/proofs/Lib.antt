@@ -1,4 +1,6 @@
 pub mod Sound
 pub mod TermBounds
 pub mod ValueBounds
+pub mod InRange
+pub mod OnTheWay
 pub mod Presence

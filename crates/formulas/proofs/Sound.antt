@@ -9,7 +9,7 @@ use lib.Dec.{eqb, leb, ltb}
 use lib.ListN.{length, get_or}
 use borrow.Author.Tests.{eqb-true, ne_eqb, leb-true}
 use Rattle.formulas.specs.Limits.{input_range, part_roundings, part_range, worked_roundings, worked_range, formula_roundings, formula_range}
-use Rattle.decimal.specs.Range.{Range, ends, operand_range, quotient_range, further_range, joined_range, Covers, covers_test}
+use Rattle.decimal.specs.Range.{Range, ends, operand_range, quotient_range, product_range, joined_range, Covers, covers_test}
 use Rattle.decimal.proofs.Ranges.{covers}
 use Rattle.inputs.proofs.Tests.{and_split}
 use Rattle.formulas.specs.Side.{Side, Risk, Hazard}
@@ -32,7 +32,7 @@ roundings (n ∷ ns) = 1 + roundings_of n + roundings ns
 
 abbrev pub ranges : List ℕ → Range
 ranges [] = ends 0 0
-ranges (n ∷ ns) = further_range (range_of n) (ranges ns)
+ranges (n ∷ ns) = product_range (range_of n) (ranges ns)
 
 -- of a product
 abbrev pub roundings_in : List ℕ → ℕ
@@ -67,7 +67,7 @@ after_covered u o = record { low = omega (arith, u.high, o.ranged.high); high = 
 abbrev sound_test : ℕ → Range → Formula → Bool
 sound_test k w f = leb (roundings_in f.after + (1 + roundings_in f.before)) k && (covers_test w (range_by f) && inputs_only f.after)
 
-pub sound_of : (k : ℕ) (w : Range) (f : Formula) → sound_test k w f ≡ true → Sound k w f
+sound_of : (k : ℕ) (w : Range) (f : Formula) → sound_test k w f ≡ true → Sound k w f
 sound_of k w f t =
     let a = and_split (leb (roundings_in f.after + (1 + roundings_in f.before)) k) _ t in
     let b = and_split (covers_test w (range_by f)) _ a.1 in

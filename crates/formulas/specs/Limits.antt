@@ -1,5 +1,5 @@
 -- The limits that the proofs allow, each named once: how many roundings a value may take, and the range of its exponent. Every formula of the
--- table and every factor that is worked out keeps them by one computed test (formulas proofs/Sound.antt).
+-- table and every factor that is worked out keeps them, by a computed test of each list (formulas proofs/Sound.antt).
 use Rattle.std.specs.Prelude.{ℕ, ◌+◌}
 use Rattle.decimal.specs.Range.{Range, ends, product_range, quotient_range, added_range}
 use Rattle.inputs.specs.Rules.{most_contaminants}

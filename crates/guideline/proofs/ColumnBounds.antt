@@ -1,13 +1,12 @@
--- The code's column of a side stands for the guidelines of the definitions, and is in range. Assumes nothing.
+-- The code's column of a side stands for the guidelines of the definitions. Assumes nothing.
 use mathlib.Core.Path.{◌≡◌, refl, sym, ap, subst, ◌∙◌}
-use mathlib.Core.Bool.{true}
 use mathlib.Core.Logic.{inl, inr}
 use mathlib.Core.List.{List, [], ◌∷◌, map}
 use Prim.Native.Nat.{ℕ, ◌+◌, ◌≤◌}
 use native.Mathlib.Omega.{arith}
 use lib.Dec.{eqb, lit≤}
 use lib.ListN.{length, get_or}
-use borrow.Author.Tests.{eq-eqb, lt-ltb}
+use borrow.Author.Tests.{eq-eqb}
 use Rattle.rounding.specs.declared.Direction.{Direction}
 use Rattle.rounding.specs.declared.Direction.TheVariants.{Down, Up}
 use Rattle.rounding.specs.declared.Number.{Number}
@@ -27,7 +26,7 @@ use Rattle.decimal.proofs.Value.{skip_first, skip_next}
 use Rattle.factors.proofs.StandsLaws.{stands_value, stands_is, stands_add, stands_div}
 use Rattle.formulas.proofs.Sound.{three_places}
 use Rattle.guideline.specs.declared.Column.{Column}
-use Rattle.guideline.specs.Column.{ColumnFor, ranged_of, column_ranged, PrintableColumn, column_decimals}
+use Rattle.guideline.specs.Column.{ColumnFor, PrintableColumn, column_decimals}
 use Rattle.guideline_rules.specs.Guideline.{side_of}
 
 pub stands_wide : {w : ℕ} {r : Number} {d : Decimal} → w ≤ formula_width → Stands w r d → Wide r
@@ -35,9 +34,6 @@ stands_wide h s = record { most = s.most; low = omega (arith, s.low); high = ome
 
 pub stands_printable : {w : ℕ} {r : Number} {d : Decimal} → w ≤ 990 → Stands w r d → Printable r
 stands_printable h s = record { digits = s.most; exponent = omega (arith, s.high) }
-
-pub stands_ranged : {w : ℕ} {r : Number} {d : Decimal} → w ≤ 990 → Stands w r d → ranged_of r ≡ true
-stands_ranged {w} {r} h s = rw (lt-ltb 2000 r.x (omega (arith, s.low)), lt-ltb r.x 4000 (omega (arith, s.high)))
 
 -- zero for zero
 pub stands_zero : {w : ℕ} {r : Number} {d : Decimal} → Stands w r d → eqb r.m 0 ≡ eqb d.m 0
@@ -105,20 +101,6 @@ column_stands vs fs t h s n target k g e =
     }
 
 -- ---- what follows from it
-module _ {vs : List Decimal} {target : Decimal} {fs : List Formula} {t : PathwayTerms} {k : Column} (s : SideStands Up vs fs t) (h : ColumnStands vs target fs k) where
-  pub column_ranged_lem : column_ranged t k ≡ true
-  column_ranged_lem =
-      rw (
-        stands_ranged (lit≤ tt) s.first,
-        stands_ranged (lit≤ tt) s.second,
-        stands_ranged (lit≤ tt) s.third,
-        stands_ranged (lit≤ tt) h.first,
-        stands_ranged (lit≤ tt) h.second,
-        stands_ranged (lit≤ tt) h.third,
-        stands_ranged (lit≤ tt) h.total,
-        stands_ranged (lit≤ tt) h.sum,
-      )
-
 pub column_printable : {vs : List Decimal} {target : Decimal} {fs : List Formula} {k : Column} → ColumnStands vs target fs k → PrintableColumn k
 column_printable h =
     record {

@@ -1,5 +1,5 @@
 -- The steps of the single guideline's code, and what their results stand for. Assumes nothing.
-use mathlib.Core.Path.{◌≡◌, subst, sym, ◌∙◌}
+use mathlib.Core.Path.{◌≡◌, subst}
 use mathlib.Core.List.{List}
 use Prim.Native.Nat.{ℕ}
 use lib.Dec.{lit≤}
@@ -13,23 +13,22 @@ use Rattle.factors.specs.declared.numbers.Factors.{Factors}
 use Rattle.factors.specs.declared.numbers.ContaminantNumbers.{ContaminantNumbers}
 use Rattle.factors.specs.declared.prepared.Prepared.{Prepared}
 use Rattle.terms.specs.declared.pathways.PathwayTerms.{PathwayTerms}
-use Rattle.terms.specs.Side.{Terms, number_values, SideFor, TermsFor, Wide, WideSide}
+use Rattle.terms.specs.Side.{Terms}
 use Rattle.formulas.specs.Side.{Risk, Hazard}
 use Rattle.formulas.specs.Target.{working_target}
 use Rattle.formulas.specs.Formula.{Formula}
 use Rattle.formulas.specs.Term.{formulas_for, values_for}
 use Rattle.factors.specs.Stands.{FactorsFor, NumbersFor}
 use Rattle.factors.specs.Prepared.{PreparedFor}
+use Rattle.terms.specs.Side.{number_values, SideFor, TermsFor, Wide, WideSide}
 use Rattle.formulas.proofs.Sound.{three_pathways}
 use Rattle.factors.proofs.StandsLaws.{risk_target, hazard_target}
 use Rattle.terms.proofs.SameValues.{values_same}
 use Rattle.guideline.specs.declared.Column.{Column}
-use Rattle.guideline.specs.Column.{ColumnFor, column_decimals, column_ranged}
+use Rattle.guideline.specs.Column.{ColumnFor, column_decimals}
 use Rattle.guideline_rules.proofs.Accepted.{Accepted}
-use Rattle.guideline_rules.specs.Guideline.{accepted, worked_out}
-use Rattle.guideline.proofs.ColumnBounds.{SideStands, ColumnStands, stands_wide, side_wide, column_stands, column_is, column_ranged_lem}
-use mathlib.Core.Bool.{true, ◌&&◌}
-use Rattle.guideline_rules.proofs.Promises.{worked}
+use Rattle.guideline_rules.specs.Guideline.{both_sides}
+use Rattle.guideline.proofs.ColumnBounds.{SideStands, ColumnStands, stands_wide, side_wide, column_stands, column_is}
 
 -- ---- the terms over the values of the definitions
 pub sides : {dir : Direction} {f : Factors} {t : ContaminantNumbers} {fs : List Formula} {k : PathwayTerms} {vs : List Decimal} →
@@ -85,8 +84,5 @@ module _ {s : Scenario} {medium : ℕ} {r : Contaminant} {f : Factors} {p : Prep
       column_stands vs (formulas_for s medium r Hazard) k.hazard hazard_three (hazard_terms h.terms) f.targets.thi (working_target s Hazard) y
       (hazard_target s f h.terms.factors) h.hazard
 
-  pub in_range_lem : column_ranged k.risk x && column_ranged k.hazard y ≡ true
-  in_range_lem = rw (column_ranged_lem (risk_terms h.terms) risk_column, column_ranged_lem (hazard_terms h.terms) hazard_column)
-
-  pub accepted_out : worked_out s medium r ≡ accepted (column_decimals x) (column_decimals y)
-  accepted_out = worked s medium r h.terms.inputs ∙ sym (rw (column_is risk_column, column_is hazard_column))
+  pub both_are : record { risk = column_decimals x; hazard = column_decimals y } ≡ both_sides s medium r
+  both_are = rw (column_is risk_column, column_is hazard_column)

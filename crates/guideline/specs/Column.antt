@@ -1,6 +1,5 @@
 -- What the code keeps of a side's guidelines: numbers, and the equations that make them.
-use Rattle.std.specs.Prelude.{◌≡◌, Bool, ◌&&◌, ◌+◌, ◌-◌, ltb}
-use Rattle.rounding.specs.Sizes.{bias}
+use Rattle.std.specs.Prelude.{◌≡◌}
 use Rattle.decimal.specs.Decimal.{decimal_of, Printable}
 use Rattle.terms.specs.Side.{TotalSize}
 use Rattle.guideline_rules.specs.declared.SideGuidelines.{SideGuidelines}
@@ -17,15 +16,6 @@ pub record ColumnFor (target : Number) (t : PathwayTerms) (c : Column) : Type 0 
   pub second : c.second ≡ quotient_of Down target t.second
   pub third : c.third ≡ quotient_of Down target t.third
   pub total : c.total ≡ quotient_of Down target c.sum
-
--- the exponent is from -999 to 999
-abbrev pub ranged_of : Number → Bool
-ranged_of r = ltb (bias - 1000) r.x && ltb r.x (bias + 1000)
-
-abbrev pub column_ranged : PathwayTerms → Column → Bool
-column_ranged t c =
-    (ranged_of t.first && (ranged_of t.second && ranged_of t.third)) &&
-    ((ranged_of c.first && (ranged_of c.second && ranged_of c.third)) && (ranged_of c.total && ranged_of c.sum))
 
 pub record PrintableColumn (c : Column) : Type 0 where
   pub first : Printable c.first

@@ -6,22 +6,17 @@ ghost use Rattle.rounding.specs.declared.Direction.TheVariants.{Down};
 ghost use Rattle.rounding.specs.Number.{InRange};
 ghost use Rattle.rounding.specs.Operations.{quotient_of};
 ghost use Rattle.terms.specs.Side.{Wide, WideSide};
-ghost use Rattle.guideline.specs.Column.{ColumnFor, ranged_of, column_ranged, PrintableColumn, column_decimals};
+ghost use Rattle.guideline.specs.Column.{ColumnFor, PrintableColumn, column_decimals};
 ghost use Rattle.guideline_rules.proofs.Accepted.{Accepted};
-ghost use Rattle.guideline_rules.specs.Guideline.{worked_out, guideline_of};
+ghost use Rattle.guideline_rules.specs.Guideline.{both_sides, guideline_of};
 
 use formulas::Sides;
 use guideline_rules::{Guidelines, SideGuidelines};
 use inputs::{Class, Contaminant, Medium, Scenario, Targets, contaminant_fits, scenario_refusal};
 use outcome::{Refusal, Refused, located};
 use presence::record_refusal;
-use rounding::{BIAS, Direction, Number};
-use terms::pathways::{PathwayTerms, Terms};
-
-// The exponents -1000 and 1000, between which a number is in range.
-const BELOW: u64 = BIAS - 1000;
-
-const ABOVE: u64 = BIAS + 1000;
+use rounding::{Direction, Number};
+use terms::pathways::Terms;
 
 // The guidelines of a side as numbers, with the sum of the terms.
 #[derive(Clone, Copy)]
@@ -73,22 +68,6 @@ pub fn columns_of(targets: Targets<Number>, t: Terms) -> Columns
     }
 }
 
-// Whether an exponent is from -999 to 999.
-fn ranged(r: Number) -> bool
-    ensures { result ≡ ranged_of r }
-{
-    (BELOW < r.x) & (r.x < ABOVE)
-}
-
-// Whether the terms of a side, their sum and its guidelines are in range.
-fn column_ranged(t: PathwayTerms, c: Column) -> bool
-    ensures { result ≡ column_ranged t c }
-{
-    let terms = ranged(t.first) & ranged(t.second) & ranged(t.third);
-    let pathways = ranged(c.first) & ranged(c.second) & ranged(c.third);
-    terms & pathways & ranged(c.total) & ranged(c.sum)
-}
-
 // The guidelines of a side as decimals.
 pub fn decimals(c: Column) -> SideGuidelines
     requires { PrintableColumn c }
@@ -102,10 +81,10 @@ pub fn decimals(c: Column) -> SideGuidelines
     }
 }
 
-// The answer for inputs that keep their rules.
-fn worked_out(s: Scenario, medium: u32, r: Contaminant) -> Result<Guidelines, Refused>
+// The guidelines for inputs that keep their rules: no exponent on the way leaves -999 to 999 (`worked_in_range`).
+fn worked_out(s: Scenario, medium: u32, r: Contaminant) -> Guidelines
     requires { Accepted s medium r }
-    ensures { result ≡ worked_out s medium r }
+    ensures { result ≡ both_sides s medium r }
 {
     let medium = Medium::of(medium);
     let class = Class::of(r.class);
@@ -114,15 +93,10 @@ fn worked_out(s: Scenario, medium: u32, r: Contaminant) -> Result<Guidelines, Re
     let t = factors::numbers::contaminant_numbers(r);
     let side = terms::pathways::terms_of(p, t, medium, class, Direction::Up);
     let columns = columns_of(f.targets, side);
-    let risk = columns.risk;
-    let hazard = columns.hazard;
-    if column_ranged(side.risk, risk) & column_ranged(side.hazard, hazard) {
-        return Ok(Guidelines {
-            risk: decimals(risk),
-            hazard: decimals(hazard),
-        });
+    Guidelines {
+        risk: decimals(columns.risk),
+        hazard: decimals(columns.hazard),
     }
-    Err(Refusal::Range.in_block(1))
 }
 
 // The eight guidelines of a contaminant under a scenario in a medium (1 soil, 2 water), or a refusal: of the scenario
@@ -135,5 +109,5 @@ pub fn guideline(s: Scenario, medium: u32, r: Contaminant) -> Result<Guidelines,
         return Err(Refusal::Field.in_block(1));
     }
     located(record_refusal(s, medium, r), 1)?;
-    worked_out(s, medium, r)
+    Ok(worked_out(s, medium, r))
 }

@@ -1,5 +1,6 @@
 pub mod Accepted
 pub mod WorkedOut
 pub mod Promises
+pub mod InRange
 pub mod MarkedFigures
 pub mod Refused

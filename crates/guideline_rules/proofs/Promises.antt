@@ -1,4 +1,4 @@
--- Demand 3, first sentence, for every accepted call and each side; and that refusal 9 does not occur. Assumes nothing.
+-- Demand 3, first sentence, for every accepted call and each side. Assumes nothing.
 use mathlib.Core.Path.{◌≡◌, refl, sym, ap, ◌∙◌}
 use mathlib.Core.Bool.{Bool, true, false, false≢true, cond, not}
 use mathlib.Core.List.{List}
@@ -6,7 +6,7 @@ use Prim.Native.Nat.{ℕ, zero, suc, ◌+◌, ◌*◌, ◌≤◌, ◌<◌}
 use native.Mathlib.Omega.{arith}
 use lib.Dec.{eqb, lit≤}
 use lib.ListN.{get_or}
-use borrow.Author.Tests.{ne_eqb, eq-eqb}
+use borrow.Author.Tests.{ne_eqb}
 use Rattle.rounding.specs.declared.Direction.{Direction}
 use Rattle.rounding.specs.declared.Direction.TheVariants.{Down, Up}
 use Rattle.rounding.specs.Within.{Within}
@@ -21,20 +21,20 @@ use Rattle.decimal.proofs.Laws.{div_zero}
 use Rattle.decimal.proofs.Approximation.{Approx, Fair, approx_div, fair_most, fair_zero, fair_there, given_zero}
 use Rattle.decimal.proofs.Approximation.Fair.{none, some}
 use Rattle.outcome.specs.declared.Refusal.TheVariants.{Field}
-use Rattle.std.specs.Prelude.{Result, Ok, Err, ⊤}
+use Rattle.std.specs.Prelude.{Result, Ok}
 use Rattle.outcome.specs.declared.Refused.{Refused}
-use Rattle.outcome.specs.Outcome.{refused, number_of, Test, refusal_number, refused_by}
-use Rattle.outcome.proofs.Tests.{all_numbers, refused_number, passing_other}
+use Rattle.outcome.specs.Outcome.{refused, number_of}
+use Rattle.outcome.proofs.Tests.{passing_ok}
 use Rattle.inputs.specs.declared.Scenario.{Scenario}
 use Rattle.inputs.specs.declared.Contaminant.{Contaminant}
-use Rattle.inputs.specs.Rules.{scenario_refusal, contaminant_fits, scenario_tests}
+use Rattle.inputs.specs.Rules.{scenario_refusal, contaminant_fits}
 use Rattle.formulas.specs.Limits.{input_range, formula_roundings, formula_range, total_roundings, total_range, guideline_roundings, guideline_range}
 use Rattle.formulas.specs.Side.{Side, Risk, Hazard}
 use Rattle.formulas.specs.Target.{target_of, working_target}
 use Rattle.formulas.specs.Formula.{Formula, none as no_formula}
 use Rattle.formulas.specs.Term.{term_of, total_of, formulas_for, values_for}
 use Rattle.formulas.specs.ExactTerm.{exact_present, exact_term, exact_total, exact_for, any_present}
-use Rattle.decimal.proofs.Value.{Value, value_inside, fair_value}
+use Rattle.decimal.proofs.Value.{Value}
 use Rattle.decimal.proofs.Value.Value.{absent, known}
 use Rattle.formulas.proofs.Sound.{table_sound, sound_at_lem, none_sound, three_pathways}
 use Rattle.formulas.proofs.TermBounds.{Represents, term_fair, term_present}
@@ -42,12 +42,10 @@ use Rattle.formulas.proofs.ValueBounds.{target_fair}
 use Rattle.formulas.specs.Sides.{side_at}
 use Rattle.guideline_rules.specs.Answer.{Guidelines}
 use Rattle.guideline_rules.proofs.Accepted.{Accepted, target_known, values_of_lem, accepted_inputs, scenario_passed}
-use Rattle.guideline_rules.specs.Pathway.{record_refusal, record_tests}
-use Rattle.guideline_rules.specs.Guideline.{side_of, guidelines_of, guidelines_sent, guideline_of, guideline_ranged, accepted, worked_out}
+use Rattle.guideline_rules.specs.Pathway.{record_refusal}
+use Rattle.guideline_rules.specs.Guideline.{side_of, guidelines_of, both_sides, guidelines_sent, guideline_of}
 use Rattle.guideline_rules.specs.Promise.{pathway_at, Kept, Promised}
 use Rattle.guideline_rules.proofs.WorkedOut.{total_bounds, present_total}
-use Rattle.outcome.specs.declared.Refusal.{Refusal}
-use Rattle.outcome.proofs.Numbers.{refusal_numbered}
 
 -- ---- nineteen roundings are less than 2/10,000,000
 kept_core : (a b : ℕ) → Within guideline_roundings a b → b * 9999998 ≤ a * 10000000
@@ -133,80 +131,35 @@ module _ (s : Scenario) (medium : ℕ) (r : Contaminant) (a : Accepted s medium 
   pathway_promise side (suc (suc zero)) h = promised (target_bounds side) _ (term_bounds Up s medium r a side 2) (term_there side 2)
   pathway_promise side (suc (suc (suc n))) h = absurd (omega (arith, h))
 
-  -- ---- no exponent leaves its limits
-  pub ranged : (side : Side) → guideline_ranged s medium r side ≡ true
-  unfolding side_of
-  ranged side =
-      let t = target_bounds side in
-      rw (
-        (value_inside (fair_value (term_bounds Up s medium r a side 0))).inside,
-        (value_inside (fair_value (term_bounds Up s medium r a side 1))).inside,
-        (value_inside (fair_value (term_bounds Up s medium r a side 2))).inside,
-        (value_inside (fair_value (total_fairly side))).inside,
-        (value_inside (guideline_value t (term_bounds Up s medium r a side 0))).inside,
-        (value_inside (guideline_value t (term_bounds Up s medium r a side 1))).inside,
-        (value_inside (guideline_value t (term_bounds Up s medium r a side 2))).inside,
-        (value_inside (guideline_value t (total_fairly side))).inside,
-      )
-
-  pub worked : worked_out s medium r ≡ accepted (guidelines_of s medium r Risk) (guidelines_of s medium r Hazard)
-  unfolding worked_out
-  worked = rw (ranged Risk, ranged Hazard)
-
--- ---- from the answer back to the conditions: an answer of number k, which is no refusal of the tests before, has passed them
-field_passed : (b : Bool) (a : Result Guidelines Refused) {k : ℕ} → (4 ≡ k → ⊥) → number_of (cond b a (refused Field 1)) ≡ k → (b ≡ true) × (number_of a ≡ k)
-field_passed true a h e = (refl, e)
-field_passed false a h e = absurd (h e)
-
--- tests that send no k back
-NotSent : ℕ → Result ⊤ Refusal → Type 0
-NotSent k x = (n : Refusal) → x ≡ Err n → refusal_number n ≡ k → ⊥
+-- ---- from an accepted answer back to the conditions
+field_passed : (b : Bool) (a : Result Guidelines Refused) → number_of (cond b a (refused Field 1)) ≡ 0 → (b ≡ true) × (number_of a ≡ 0)
+field_passed true a e = (refl, e)
+field_passed false a e = absurd (omega (arith, e))
 
 module _ (s : Scenario) (medium : ℕ) (r : Contaminant) where
   abbrev answer : Result Guidelines Refused
   answer = guideline_of s medium r
 
   record Passed : Type 0 where
-    scenario : scenario_refusal s medium ≡ Ok tt
-    fits : contaminant_fits r ≡ true
-    pathway : record_refusal s medium r ≡ Ok tt
+    inputs : Accepted s medium r
+    is : answer ≡ Ok (both_sides s medium r)
 
-  conditions : {k : ℕ} → NotSent k (scenario_refusal s medium) → (4 ≡ k → ⊥) → NotSent k (record_refusal s medium r) → number_of answer ≡ k → Passed
-  unfolding guideline_of NotSent
-  conditions h f g e =
-      let a = passing_other (scenario_refusal s medium) 0 _ h e in
-      let b = field_passed (contaminant_fits r) _ f a.1 in
-      let c = passing_other (record_refusal s medium r) 1 _ g b.1 in
-      record { scenario = a.0; fits = b.0; pathway = c.0 }
-
-  inputs_of_lem : Passed → Accepted s medium r
-  inputs_of_lem p = let t = scenario_passed s medium p.scenario in accepted_inputs s medium r t.fits t.factors p.fits
-
-  answer_is : Passed → answer ≡ accepted (guidelines_of s medium r Risk) (guidelines_of s medium r Hazard)
+  passed : number_of answer ≡ 0 → Passed
   unfolding guideline_of
-  answer_is p = rw (p.scenario, p.fits, p.pathway) (worked s medium r (inputs_of_lem p))
-
-  -- REFUSAL 9 does not occur
-  abbrev not9 : ℕ → Bool
-  not9 n = not (eqb n 9)
-
-  other : (ts : List Test) → all_numbers not9 ts ≡ true → NotSent 9 (refused_by ts)
-  unfolding NotSent
-  other ts h n e k = absurd (false≢true (sym (ap not (eq-eqb (refusal_number n) 9 k)) ∙ refused_number not9 ts h n e))
-
-  pub never_out_of_range : number_of answer ≡ 9 → ⊥
-  unfolding scenario_refusal record_refusal
-  never_out_of_range h =
-      let p = conditions (other (scenario_tests s medium) refl) (λ e. omega (arith, e)) (other (record_tests s medium r) refl) h in
-      omega (arith, sym (ap number_of (answer_is p)) ∙ h)
-
-  zero_passed : number_of answer ≡ 0 → Passed
-  unfolding NotSent
-  zero_passed = conditions (λ n e. (refusal_numbered n).some) (λ e. omega (arith, e)) (λ n e. (refusal_numbered n).some)
+  passed h =
+      let a = passing_ok (scenario_refusal s medium) 0 _ h in
+      let b = field_passed (contaminant_fits r) _ a.1 in
+      let c = passing_ok (record_refusal s medium r) 1 _ b.1 in
+      let t = scenario_passed s medium a.0 in
+      record { inputs = accepted_inputs s medium r t.fits t.factors b.0; is = rw (a.0, b.0, c.0) refl }
 
   -- an accepted answer holds the guidelines of both sides
-  pub accepted_is : number_of answer ≡ 0 → answer ≡ accepted (guidelines_of s medium r Risk) (guidelines_of s medium r Hazard)
-  accepted_is h = answer_is (zero_passed h)
+  pub accepted_is : number_of answer ≡ 0 → answer ≡ Ok (both_sides s medium r)
+  accepted_is h = (passed h).is
+
+  -- and its inputs passed the tests of the fields
+  pub accepted_of : number_of answer ≡ 0 → Accepted s medium r
+  accepted_of h = (passed h).inputs
 
   side_is : number_of answer ≡ 0 → (side : Side) → side_at (guidelines_sent answer) side ≡ guidelines_of s medium r side
   side_is h Risk = ap (λ (g : Result Guidelines Refused). (guidelines_sent g).risk) (accepted_is h)
@@ -217,10 +170,10 @@ module _ (s : Scenario) (medium : ℕ) (r : Contaminant) where
   pub promise : number_of answer ≡ 0 → (side : Side) →
       Promised (side_at (guidelines_sent answer) side).total (given (target_of s side)) (any_present (exact_for s r) (formulas_for s medium r side))
       (exact_total (exact_for s r) (formulas_for s medium r side))
-  promise h side = rw (side_is h side) (total_promise s medium r (inputs_of_lem (zero_passed h)) side)
+  promise h side = rw (side_is h side) (total_promise s medium r (accepted_of h) side)
 
   -- the same of each pathway's own guideline
   pub pathway_promises : number_of answer ≡ 0 → (side : Side) (n : ℕ) → n < 3 →
       Promised (pathway_at (side_at (guidelines_sent answer) side) n) (given (target_of s side)) (exact_present (exact_for s r) (get_or (formulas_for s medium r side) n no_formula))
       (exact_term (exact_for s r) (get_or (formulas_for s medium r side) n no_formula))
-  pathway_promises h side n k = rw (side_is h side) (pathway_promise s medium r (inputs_of_lem (zero_passed h)) side n k)
+  pathway_promises h side n k = rw (side_is h side) (pathway_promise s medium r (accepted_of h) side n k)

@@ -1,11 +1,10 @@
 -- The single guideline of the specification: its eight decimals, or what is sent back.
-use Rattle.std.specs.Prelude.{Bool, true, cond, ◌&&◌, List, [], ◌∷◌, ℕ, get_or, Result, Ok, Err}
+use Rattle.std.specs.Prelude.{cond, List, ℕ, get_or, Result, Ok, Err}
 use Rattle.rounding.specs.declared.Direction.TheVariants.{Down, Up}
 use Rattle.decimal.specs.declared.Decimal.{Decimal}
-use Rattle.decimal.specs.Exponent.{in_range}
 use Rattle.decimal.specs.Decimal.{zero_of, div_of}
 use Rattle.outcome.specs.declared.Refused.{Refused}
-use Rattle.outcome.specs.declared.Refusal.TheVariants.{Field, Range}
+use Rattle.outcome.specs.declared.Refusal.TheVariants.{Field}
 use Rattle.outcome.specs.Outcome.{refused, passing}
 use Rattle.inputs.specs.declared.Scenario.{Scenario}
 use Rattle.inputs.specs.declared.Contaminant.{Contaminant}
@@ -27,21 +26,7 @@ side_of vs target fs = record {
   total = div_of target (total_of vs Up fs) Down;
 }
 
--- ---- 9: an e outside -999 to 999 in the terms, their sum or the guidelines
-abbrev pub all_ranged : List Decimal → Bool
-all_ranged [] = true
-all_ranged (d ∷ ds) = in_range d.e && all_ranged ds
-
-abbrev pub side_decimals : List Decimal → Decimal → List Formula → List Decimal
-side_decimals vs target fs =
-    term_of vs Up (get_or fs 0 none) ∷ (term_of vs Up (get_or fs 1 none) ∷ (term_of vs Up (get_or fs 2 none) ∷ (total_of vs Up fs ∷
-    ((side_of vs target fs).first ∷ ((side_of vs target fs).second ∷ ((side_of vs target fs).third ∷ ((side_of vs target fs).total ∷ [])))))))
-
--- ---- what comes back
-abbrev pub accepted : SideGuidelines → SideGuidelines → Result Guidelines Refused
-accepted risk hazard = Ok (record { risk = risk; hazard = hazard })
-
--- the guidelines of each case: zero decimals on a refusal
+-- ---- the guidelines that come back: zero decimals on a refusal
 abbrev pub zero_side : SideGuidelines
 zero_side = record { first = zero_of; second = zero_of; third = zero_of; total = zero_of }
 
@@ -54,19 +39,12 @@ guidelines_sent (Err r) = record { risk = zero_side; hazard = zero_side }
 abbrev pub guidelines_of : Scenario → ℕ → Contaminant → Side → SideGuidelines
 guidelines_of s medium r side = side_of (values_for Up s r) (working_target s side) (formulas_for s medium r side)
 
--- a side without a 9: its terms, their sum and its guidelines
-abbrev pub guideline_ranged : Scenario → ℕ → Contaminant → Side → Bool
-guideline_ranged s medium r side = all_ranged (side_decimals (values_for Up s r) (working_target s side) (formulas_for s medium r side))
+-- those of both sides
+abbrev pub both_sides : Scenario → ℕ → Contaminant → Guidelines
+both_sides s medium r = record { risk = guidelines_of s medium r Risk; hazard = guidelines_of s medium r Hazard }
 
--- the guidelines of both sides, or 9 in block 1
-unfoldable pub worked_out : Scenario → ℕ → Contaminant → Result Guidelines Refused
-worked_out s medium r =
-    cond (guideline_ranged s medium r Risk && guideline_ranged s medium r Hazard)
-    (accepted (guidelines_of s medium r Risk) (guidelines_of s medium r Hazard))
-    (refused Range 1)
-
--- in block 0 the refusals of the scenario; in block 1 of the record 4, the refusals after it, 9
+-- in block 0 the refusals of the scenario; in block 1 of the record 4 and the refusals after it
 unfoldable pub guideline_of : Scenario → ℕ → Contaminant → Result Guidelines Refused
 guideline_of s medium r =
     passing (scenario_refusal s medium) 0
-    (cond (contaminant_fits r) (passing (record_refusal s medium r) 1 (worked_out s medium r)) (refused Field 1))
+    (cond (contaminant_fits r) (passing (record_refusal s medium r) 1 (Ok (both_sides s medium r))) (refused Field 1))

@@ -1,5 +1,5 @@
 -- The parts of an answer come back out of the word that the C library returns. Assumes nothing.
-use mathlib.Core.Bool.{Bool, true, false, cond, ◌&&◌}
+use mathlib.Core.Bool.{Bool, true, false, cond}
 use mathlib.Core.List.{List}
 use Prim.Native.Nat.{ℕ, ◌≤◌}
 use native.Mathlib.Omega.{arith}
@@ -8,14 +8,14 @@ use Rattle.std.specs.Prelude.{Result, Ok, Err, ⊤}
 use Rattle.outcome.specs.declared.Refusal.{Refusal}
 use Rattle.outcome.specs.declared.Refused.{Refused}
 use Rattle.outcome.specs.Outcome.{number_of, block_of, refused, passing}
-use Rattle.outcome.specs.declared.Refusal.TheVariants.{Field, Range, Room}
+use Rattle.outcome.specs.declared.Refusal.TheVariants.{Field, Room}
 use Rattle.inputs.specs.declared.Scenario.{Scenario}
 use Rattle.inputs.specs.declared.Contaminant.{Contaminant}
 use Rattle.inputs.specs.Rules.{scenario_refusal, contaminant_fits}
 use Rattle.formulas.specs.Side.{Risk, Hazard}
 use Rattle.guideline_rules.specs.Answer.{Guidelines}
 use Rattle.guideline_rules.specs.Pathway.{record_refusal}
-use Rattle.guideline_rules.specs.Guideline.{guideline_ranged, worked_out, guideline_of}
+use Rattle.guideline_rules.specs.Guideline.{both_sides, guideline_of}
 use Rattle.sum_rules.specs.Promise.{side_sent}
 use Rattle.outcome.proofs.Numbers.{number_most}
 use Rattle.site_rules.specs.Site.{site_answer}
@@ -46,16 +46,12 @@ behind_block : (x : Result ⊤ Refusal) (k : ℕ) (a : Result Guidelines Refused
 behind_block (Ok u) k a l h = h
 behind_block (Err n) k a l h = l
 
-worked_block : (s : Scenario) (medium : ℕ) (r : Contaminant) → block_of (worked_out s medium r) ≤ 1
-unfolding worked_out
-worked_block s medium r = either_block (guideline_ranged s medium r Risk && guideline_ranged s medium r Hazard) _ (refused Range 1) (omega arith) (omega arith)
-
 guideline_block : (s : Scenario) (medium : ℕ) (r : Contaminant) → block_of (guideline_of s medium r) ≤ 1
 unfolding guideline_of
 guideline_block s medium r =
     behind_block (scenario_refusal s medium) 0 _ (omega arith)
     (either_block (contaminant_fits r) _ (refused Field 1)
-    (behind_block (record_refusal s medium r) 1 (worked_out s medium r) (omega arith) (worked_block s medium r)) (omega arith))
+    (behind_block (record_refusal s medium r) 1 (Ok (both_sides s medium r)) (omega arith) (omega arith)) (omega arith))
 
 room_block : (room : ℕ) (a : Result Guidelines Refused) → block_of a ≤ 1 → block_of (with_room room a) ≤ 1
 room_block room (Ok g) h = either_block (ltb room 64) (refused Room 0) (Ok g) (omega arith) h

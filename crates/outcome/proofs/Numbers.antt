@@ -1,12 +1,12 @@
--- The numbers of what is sent back: a refusal's is from 1 to the greatest, so that an answer with number 0 is accepted and any other is refused.
--- Assumes nothing.
+-- The numbers of what is sent back: a refusal's is from 1 to the greatest and never 9, so that an answer with number 0 is accepted and any other is
+-- refused. Assumes nothing.
 use Rattle.std.proofs.Common.{◌≡◌, ℕ, ◌≤◌, refl, ap, subst, arith}
 use Rattle.std.specs.Result.{result_unwrap_or}
 use Rattle.std.specs.Prelude.{Result, Ok, Err, MatchResult, ⊤}
 use Rattle.outcome.specs.declared.Refusal.{Refusal}
 use Rattle.outcome.specs.declared.Refused.{Refused}
-use Rattle.outcome.specs.declared.Refusal.TheVariants.{Length, Check, Kind, Field, Count, Factor, Order, Pathway, Range, Room, Scenario}
-use Rattle.outcome.specs.Outcome.{refusal_number, number_of, most_number}
+use Rattle.outcome.specs.declared.Refusal.TheVariants.{Length, Check, Kind, Field, Count, Factor, Order, Pathway, Room, Scenario}
+use Rattle.outcome.specs.Outcome.{refusal_number, number_of, not_used, most_number}
 
 -- no answer is both
 pub not_both : {A E : Type 0} {a : A} {e : E} → Ok a ≡ Err e → ⊥
@@ -20,20 +20,20 @@ same_error h = cc
 
 pub record Numbered (n : ℕ) : Type 0 where
   pub some : n ≡ 0 → ⊥
+  pub used : n ≡ not_used → ⊥
   pub most : n ≤ most_number
 
 pub refusal_numbered : (n : Refusal) → Numbered (refusal_number n)
-refusal_numbered Length = record { some = λ e. omega (arith, e); most = omega arith }
-refusal_numbered Check = record { some = λ e. omega (arith, e); most = omega arith }
-refusal_numbered Kind = record { some = λ e. omega (arith, e); most = omega arith }
-refusal_numbered Field = record { some = λ e. omega (arith, e); most = omega arith }
-refusal_numbered Count = record { some = λ e. omega (arith, e); most = omega arith }
-refusal_numbered Factor = record { some = λ e. omega (arith, e); most = omega arith }
-refusal_numbered Order = record { some = λ e. omega (arith, e); most = omega arith }
-refusal_numbered Pathway = record { some = λ e. omega (arith, e); most = omega arith }
-refusal_numbered Range = record { some = λ e. omega (arith, e); most = omega arith }
-refusal_numbered Room = record { some = λ e. omega (arith, e); most = omega arith }
-refusal_numbered Scenario = record { some = λ e. omega (arith, e); most = omega arith }
+refusal_numbered Length = record { some = λ e. omega (arith, e); used = λ e. omega (arith, e); most = omega arith }
+refusal_numbered Check = record { some = λ e. omega (arith, e); used = λ e. omega (arith, e); most = omega arith }
+refusal_numbered Kind = record { some = λ e. omega (arith, e); used = λ e. omega (arith, e); most = omega arith }
+refusal_numbered Field = record { some = λ e. omega (arith, e); used = λ e. omega (arith, e); most = omega arith }
+refusal_numbered Count = record { some = λ e. omega (arith, e); used = λ e. omega (arith, e); most = omega arith }
+refusal_numbered Factor = record { some = λ e. omega (arith, e); used = λ e. omega (arith, e); most = omega arith }
+refusal_numbered Order = record { some = λ e. omega (arith, e); used = λ e. omega (arith, e); most = omega arith }
+refusal_numbered Pathway = record { some = λ e. omega (arith, e); used = λ e. omega (arith, e); most = omega arith }
+refusal_numbered Room = record { some = λ e. omega (arith, e); used = λ e. omega (arith, e); most = omega arith }
+refusal_numbered Scenario = record { some = λ e. omega (arith, e); used = λ e. omega (arith, e); most = omega arith }
 
 -- an answer with number 0 is accepted
 pub accepted_value : {A : Type 0} (x : Result A Refused) → number_of x ≡ 0 → (a : A) × (x ≡ Ok a)
@@ -48,3 +48,8 @@ refused_value (Err r) n = (r, refl)
 pub number_most : {A : Type 0} (x : Result A Refused) → number_of x ≤ most_number
 number_most (Ok a) = omega arith
 number_most (Err r) = (refusal_numbered r.refusal).most
+
+-- NINE is the number of no answer
+pub nine_not_used : {A : Type 0} (x : Result A Refused) → number_of x ≡ not_used → ⊥
+nine_not_used (Ok a) e = omega (arith, e)
+nine_not_used (Err r) e = (refusal_numbered r.refusal).used e

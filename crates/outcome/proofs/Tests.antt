@@ -1,48 +1,37 @@
--- What the first of several tests sends back: nothing, or the refusal of one of them. What the numbers of all of them keep, by a computed
--- test of the list, the number that is sent back keeps. Assumes nothing.
-use Rattle.std.proofs.Common.{◌≡◌, ℕ, List, [], ◌∷◌, refl, ap, sym, ◌∙◌}
-use Rattle.std.specs.Prelude.{Bool, true, false, cond, ◌&&◌, Result, Ok, Err, ⊤, IsErrAnd}
+-- Answers behind tests: where a value is sent back the tests before it were passed, and what the code hands back by `?` is what they sent.
+-- Assumes nothing.
+use Rattle.std.proofs.Common.{◌≡◌, ℕ, refl, ap, sym, ◌∙◌}
+use Rattle.std.specs.Prelude.{Bool, true, false, cond, Result, Ok, Err, ⊤, IsErrAnd}
 use Rattle.std.specs.Result.{result_and}
-use mathlib.Core.Bool.{and-eq-true_iff}
 use Rattle.outcome.specs.declared.Refusal.{Refusal}
 use Rattle.outcome.specs.declared.Refused.{Refused}
-use Rattle.outcome.specs.Outcome.{Test, refusal_number, number_of, refused_by, refused, located, on_read, passing}
+use Rattle.outcome.specs.Outcome.{number_of, refused, located, on_read, passing}
 use Rattle.outcome.proofs.Numbers.{not_both, same_value, same_error, refusal_numbered}
-
-abbrev pub all_numbers : (ℕ → Bool) → List Test → Bool
-all_numbers p [] = true
-all_numbers p (t ∷ ts) = p (refusal_number t.refusal) && all_numbers p ts
-
--- the refusal of tests, or another where there is none
-abbrev told : Refusal → Result ⊤ Refusal → Refusal
-told d (Ok x) = d
-told d (Err n) = n
-
-pub refused_number : (p : ℕ → Bool) (ts : List Test) → all_numbers p ts ≡ true → (n : Refusal) → refused_by ts ≡ Err n → p (refusal_number n) ≡ true
-refused_number p [] h n e = absurd (not_both e)
-refused_number p (t ∷ ts) h n e =
-    let b = (and-eq-true_iff (p (refusal_number t.refusal)) (all_numbers p ts)).0 h in
-    cases t.holds b.0 (refused_number p ts b.1 n) e
-  where
-    cases : (b : Bool) → p (refusal_number t.refusal) ≡ true → (refused_by ts ≡ Err n → p (refusal_number n) ≡ true) →
-        cond b (Err t.refusal) (refused_by ts) ≡ Err n → p (refusal_number n) ≡ true
-    cases true f g e = ap (λ (x : Result ⊤ Refusal). p (refusal_number (told n x))) (sym e) ∙ f
-    cases false f g e = g e
 
 -- ---- where a value is sent back, no test before it held
 pub passed : {A : Type 0} (t : Bool) (n : Refusal) {y : Result A Refusal} {a : A} → cond t (Err n) y ≡ Ok a → (t ≡ false) × (y ≡ Ok a)
 passed true n e = absurd (not_both (sym e))
 passed false n e = (refl, e)
 
--- ---- an answer behind tests: one whose number the tests do not send back has passed them
-pub passing_other : {A : Type 0} (x : Result ⊤ Refusal) (k : ℕ) (a : Result A Refused) {m : ℕ} → ((n : Refusal) → x ≡ Err n → refusal_number n ≡ m → ⊥) →
-    number_of (passing x k a) ≡ m → (x ≡ Ok tt) × (number_of a ≡ m)
-passing_other (Ok tt) k a f z = (refl, z)
-passing_other (Err n) k a f z = absurd (f n refl z)
-
--- an accepted one among them
+-- ---- an accepted answer behind tests: none of them sent anything back
 pub passing_ok : {A : Type 0} (x : Result ⊤ Refusal) (k : ℕ) (a : Result A Refused) → number_of (passing x k a) ≡ 0 → (x ≡ Ok tt) × (number_of a ≡ 0)
-passing_ok x k a = passing_other x k a (λ n e. (refusal_numbered n).some)
+passing_ok (Ok tt) k a z = (refl, z)
+passing_ok (Err n) k a z = absurd ((refusal_numbered n).some z)
+
+-- the same where the tests know their block
+pub and_ok : {A : Type 0} (x : Result ⊤ Refused) (a : Result A Refused) → number_of (result_and x a) ≡ 0 → (x ≡ Ok tt) × (number_of a ≡ 0)
+and_ok (Ok tt) a z = (refl, z)
+and_ok (Err r) a z = absurd ((refusal_numbered r.refusal).some z)
+
+-- tests, further tests behind them, and then an answer
+pub and_after : {A : Type 0} (x y : Result ⊤ Refused) (a : Result A Refused) → result_and (result_and x y) a ≡ result_and x (result_and y a)
+and_after (Ok u) y a = refl
+and_after (Err r) y a = refl
+
+pub read_after : {A B : Type 0} (x : Result A Refusal) (k : ℕ) (g : A → Result ⊤ Refused) (b : Result B Refused) →
+    result_and (on_read x (λ (n : Refusal). refused n k) g) b ≡ on_read x (λ (n : Refusal). refused n k) (λ (a : A). result_and (g a) b)
+read_after (Ok a) k g b = refl
+read_after (Err n) k g b = refl
 
 -- ---- from the code's `?`: what it hands back is the refusal, and what goes on has passed
 pub handed_back : {A : Type 0} (x : Result A Refused) {r : Refused} → IsErrAnd x (λ (e : Refused). e ≡ r) → x ≡ Err r

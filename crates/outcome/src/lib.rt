@@ -1,13 +1,13 @@
-// Why a call is refused: one of eleven refusals, and the block that it concerns. A call that can be refused answers a Result.
+// Why a call is refused: one of ten refusals, and the block that it concerns. A call that can be refused answers a Result.
 #![tactic(auto)]
 
 ghost use Rattle.std.specs.Prelude.{◌≡◌};
 ghost use Rattle.outcome.specs.Outcome.{refusal_number, number_of, block_of, concerning, located};
 
-// The word of each refusal, in the order of their numbers.
+// The word of each refusal, in the order of their numbers. The places, from 1, are not the numbers, which leave out 9: `u32::from` gives those.
 #[derive(Clone, Copy)]
 pub enum Refusal {
-    Length,
+    Length = 1,
     Check,
     Kind,
     Field,
@@ -15,10 +15,12 @@ pub enum Refusal {
     Factor,
     Order,
     Pathway,
-    Range,
     Room,
     Scenario,
 }
+
+// The number that none of them has.
+pub const NOT_USED: u32 = 9;
 
 // A refusal and the block that it concerns.
 #[derive(Clone, Copy)]
@@ -27,24 +29,14 @@ pub struct Refused {
     pub block: u32,
 }
 
-// The number of a refusal.
+// The number of a refusal: its place in the enum, or one more behind the number that is not used. Written out in the enum, the gap
+// would be a table in the read-only section wherever this is inlined.
 impl From<Refusal> for u32 {
     ghost from_gives = { λ n r. r ≡ refusal_number n };
 
     fn from(n: Refusal) -> u32 {
-        match n {
-            Refusal::Length => 1,
-            Refusal::Check => 2,
-            Refusal::Kind => 3,
-            Refusal::Field => 4,
-            Refusal::Count => 5,
-            Refusal::Factor => 6,
-            Refusal::Order => 7,
-            Refusal::Pathway => 8,
-            Refusal::Range => 9,
-            Refusal::Room => 10,
-            Refusal::Scenario => 11,
-        }
+        let place = n as u32;
+        if place < NOT_USED { place } else { place + 1 }
     }
 }
 

@@ -3,7 +3,7 @@ use mathlib.Core.Path.{◌≡◌, sym, ap, subst, ◌∙◌}
 use mathlib.Core.List.{List}
 use Prim.Native.Nat.{ℕ, ◌+◌, ◌*◌, ◌-◌, ◌≤◌}
 use lib.ListN.{take, drop}
-use Rattle.std.specs.Prelude.{Result, false}
+use Rattle.std.specs.Prelude.{Result, Ok, false}
 use Rattle.outcome.specs.declared.Refused.{Refused}
 use Rattle.inputs.specs.declared.Scenario.{Scenario}
 use Rattle.inputs.specs.declared.Contaminant.{Contaminant}
@@ -17,9 +17,9 @@ use Rattle.guideline.specs.declared.Column.{Column}
 use Rattle.guideline.specs.Column.{ColumnFor, PrintableColumn, column_decimals}
 use Rattle.inputs.specs.Rules.{scenario_refusal, most_contaminants, lacks_factor}
 use Rattle.factors.specs.Widths.{share_width}
-use Rattle.guideline_rules.specs.Guideline.{guidelines_sent, guideline_of, accepted}
+use Rattle.guideline_rules.specs.Guideline.{guidelines_sent, guideline_of}
 use Rattle.guideline.proofs.ColumnBounds.{column_printable}
-use Rattle.guideline.proofs.Steps.{TermsOf, ColumnsOf, wide, risk_column, hazard_column, accepted_out}
+use Rattle.guideline.proofs.Steps.{TermsOf, ColumnsOf, wide, risk_column, hazard_column, both_are}
 use Rattle.shares.specs.declared.plan.Plan.{Plan}
 use Rattle.shares.specs.declared.Worked.{Worked}
 use Rattle.shares.specs.Runs.{Runs}
@@ -44,7 +44,7 @@ read_ok {s} {medium} site place {r} ok e = subst (RecordOk s medium) (sym (read_
 
 -- the result block of a place, from its guidelines
 pub block_is : (s : Scenario) (medium : ℕ) (site : List ℕ) (place : ℕ) (r : Contaminant) (a b : SideGuidelines) → r ≡ record_at site place →
-    guideline_of s medium r ≡ accepted a b → result_block place r.class r.id a b ≡ result_at s medium site place
+    guideline_of s medium r ≡ Ok (record { risk = a; hazard = b }) → result_block place r.class r.id a b ≡ result_at s medium site place
 unfolding result_at
 block_is s medium site place r a b e g =
     ap (λ (z : Result Guidelines Refused). result_block place r.class r.id (guidelines_sent z).risk (guidelines_sent z).hazard) (sym g) ∙
@@ -71,10 +71,9 @@ module _ {p : Plan} {r : Contaminant} {w : Worked} (known : lacks_factor p.scena
     hazard_printable = column_printable (hazard_column columns_of)
 
     -- the decimals of the block are those of the single guideline
-    pub guideline_is : guideline_of p.scenario p.medium r ≡ accepted (column_decimals x) (column_decimals y)
+    pub guideline_is : guideline_of p.scenario p.medium r ≡ Ok (record { risk = column_decimals x; hazard = column_decimals y })
     unfolding guideline_of scenario_refusal
-    guideline_is =
-        rw (p.ready.fits, known, ok.fits, ok.passed) (accepted_out columns_of)
+    guideline_is = rw (p.ready.fits, known, ok.fits, ok.passed) (ap Ok (sym (both_are columns_of)))
 
     -- and its shares can be added
     pub shares_fit : {n : ℕ} {z : Runs} → n ≤ most_contaminants + 1 → RunsReady (share_width + n) z → Addable z w x.sum y.sum

@@ -9,21 +9,18 @@ use Rattle.outcome.specs.declared.Refusal.TheVariants.{Room}
 use Rattle.std.specs.Prelude.{Result, Ok, Err, ⊤}
 use Rattle.std.specs.Result.{result_and}
 use Rattle.outcome.specs.declared.Refused.{Refused}
-use Rattle.outcome.specs.Outcome.{number_of, refused}
+use Rattle.outcome.specs.Outcome.{refused}
 use Rattle.words.specs.Bytes.{over}
 use Rattle.block_rules.specs.declared.Header.{Header}
 use Rattle.sum_rules.specs.Answer.{Sums}
-use Rattle.sum_rules.specs.Share.{start}
-use Rattle.sum_rules.proofs.InRange.{fair_start}
-use Rattle.site_rules.specs.Blocks.{records_from, all_sums, record_at}
+use Rattle.site_rules.specs.Blocks.{record_at}
 use Rattle.site_rules.specs.Site.{site_answer}
 use Rattle.site_rules.specs.Results.{results_of, left_of, site_left}
-use Rattle.site_rules.proofs.Walk.{walk_blocks, with_room}
-use Rattle.site.specs.Check.{check_blocks, Checking}
+use Rattle.site_rules.proofs.Walk.{with_room, checked_from, sums_from}
+use Rattle.site.specs.Check.{Checking}
 use Rattle.result_blocks.specs.Writing.{blocks_of}
 use Rattle.site_rules.specs.Passed.{Opened, RecordOk}
-use Rattle.site.proofs.Walks.{walk_checked}
-use Rattle.site_rules.proofs.Passed.{walk_ok}
+use Rattle.site_rules.proofs.Passed.{check_ok}
 use Rattle.site_rules.proofs.Opened.{opened_fits, opened_known, header_is, site_long, count_most, answer_walked}
 
 -- ---- a site whose header was found
@@ -32,20 +29,14 @@ module _ {site : List ℕ} {h : Header} (o : Opened site h) where
   checking = record { fits = opened_fits o; known = opened_known o; long = omega (arith, site_long o); most = count_most o }
 
   abbrev found : Result ⊤ Refused
-  found = check_blocks h.scenario h.medium site h.count 1 0
+  found = checked_from site h
 
   abbrev sums : Result Sums Refused
-  sums = all_sums h.scenario h.medium (records_from site h.count 1)
-
-  walked_opened : walk_blocks h.scenario h.medium site h.count 1 0 start start ≡ result_and found sums
-  walked_opened = walk_checked h.scenario h.medium site (opened_fits o) (opened_known o) h.count 1 0 0 start start (omega (arith, count_most o)) fair_start fair_start
-
-  answer_opened : (out : ℕ) → site_answer site out ≡ with_room (length site) out (result_and found sums)
-  answer_opened out = answer_walked o out ∙ ap (with_room (length site) out) walked_opened
+  sums = sums_from site h
 
   pub answer_refused : (out : ℕ) {r : Refused} → found ≡ Err r → site_answer site out ≡ Err r
   unfolding with_room
-  answer_refused out e = answer_opened out ∙ rw e refl
+  answer_refused out e = answer_walked o out ∙ rw e refl
 
   module _ (z : found ≡ Ok tt) where
     passed : result_and found sums ≡ sums
@@ -53,15 +44,15 @@ module _ {site : List ℕ} {h : Header} (o : Opened site h) where
 
     -- every record keeps its rules and has a pathway
     pub checked_records : (k : ℕ) → 1 ≤ k → k < 1 + h.count → RecordOk h.scenario h.medium (record_at site k)
-    checked_records = walk_ok h.scenario h.medium site h.count 1 0 start start (ap number_of (walked_opened ∙ passed))
+    checked_records = check_ok h.scenario h.medium site h.count 1 0 z
 
     pub answer_room : (out : ℕ) → out < length site → site_answer site out ≡ refused Room 0
     unfolding with_room
-    answer_room out l = answer_opened out ∙ ap (with_room (length site) out) passed ∙ rw (lt-ltb out (length site) l)
+    answer_room out l = answer_walked o out ∙ ap (with_room (length site) out) passed ∙ rw (lt-ltb out (length site) l)
 
     pub answer_sums : (out : ℕ) → length site ≤ out → site_answer site out ≡ sums
     unfolding with_room
-    answer_sums out l = answer_opened out ∙ ap (with_room (length site) out) passed ∙ rw (le-ltb out (length site) l)
+    answer_sums out l = answer_walked o out ∙ ap (with_room (length site) out) passed ∙ rw (le-ltb out (length site) l)
 
     pub left_accepted : (out : List ℕ) (a : Sums) → Ok a ≡ sums → length site ≤ length out → site_left site out ≡ over (blocks_of h.scenario h.medium site h.count a) out
     unfolding site_left results_of

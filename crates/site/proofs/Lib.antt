@@ -1,4 +1,3 @@
-pub mod Walks
 pub mod Turns
 pub mod Answers
 pub mod Planned

@@ -15,7 +15,7 @@ use Rattle.sums.proofs.Started.{plan_known}
 use Rattle.site_rules.specs.Blocks.{records_from, all_sums}
 use Rattle.site_rules.specs.Site.{site_answer}
 use Rattle.site_rules.specs.Results.{site_left}
-use Rattle.site.specs.Check.{check_blocks}
+use Rattle.site_rules.proofs.Walk.{check_blocks}
 use Rattle.result_blocks.specs.Writing.{Writing, blocks_of}
 use Rattle.site_rules.specs.Passed.{Opened}
 use Rattle.site.proofs.Answers.{checking, checked_records, answer_sums, left_accepted}

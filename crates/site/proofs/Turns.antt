@@ -10,7 +10,7 @@ use Rattle.inputs.specs.declared.Contaminant.{Contaminant}
 use Rattle.block_rules.specs.Reading.{contaminant_read}
 use Rattle.guideline_rules.specs.Pathway.{record_refusal}
 use Rattle.site_rules.specs.Blocks.{block_at}
-use Rattle.site.specs.Check.{check_blocks}
+use Rattle.site_rules.proofs.Walk.{check_blocks}
 
 module _ (s : Scenario) (medium : ℕ) (site : List ℕ) where
   module _ (n k before : ℕ) (l : k < n) where

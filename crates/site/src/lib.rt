@@ -5,7 +5,8 @@ ghost use Rattle.std.specs.Prelude.{◌≡◌, length};
 ghost use Rattle.site_rules.specs.Blocks.{length_ok};
 ghost use Rattle.site_rules.specs.Site.{site_answer};
 ghost use Rattle.site_rules.specs.Results.{site_left};
-ghost use Rattle.site.specs.Check.{check_blocks, Checking};
+ghost use Rattle.site_rules.proofs.Walk.{check_blocks};
+ghost use Rattle.site.specs.Check.{Checking};
 ghost use Rattle.site_rules.specs.Passed.{Opened};
 
 use block_rules::{BLOCK_SIZE, Header};

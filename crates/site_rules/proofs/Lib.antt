@@ -9,5 +9,6 @@ pub mod OutputBlocks
 pub mod WrittenSite
 pub mod RefusalTable
 pub mod AnswerBounds
+pub mod InRange
 pub mod ReadBack
 pub mod SingleSite

@@ -19,11 +19,11 @@ use Rattle.block_rules.specs.Reading.{header_read, contaminant_read}
 use Rattle.block_rules.specs.Rules.{in_file, count_ok}
 use Rattle.block_rules.proofs.Found.{HeaderFacts, header_facts, ContaminantFacts, contaminant_facts}
 use Rattle.block_rules.proofs.Rules.{in_file_lem}
-use Rattle.sum_rules.specs.Share.{start}
+use Rattle.std.specs.Result.{result_and}
 use Rattle.site_rules.specs.Blocks.{length_ok, block_at, header_of, record_at}
 use Rattle.site_rules.specs.Site.{site_answer}
 use Rattle.site_rules.specs.Results.{site_left}
-use Rattle.site_rules.proofs.Walk.{walk_blocks, with_room, walked_answer}
+use Rattle.site_rules.proofs.Walk.{with_room, checked_from, sums_from, walked_answer}
 use Rattle.site_rules.proofs.WalkTable.{walked}
 use Rattle.site_rules.proofs.RightLength.{right_length}
 use Rattle.site_rules.specs.Passed.{Opened}
@@ -82,7 +82,7 @@ module _ {site : List ℕ} {h : Header} (o : Opened site h) where
   pub opened_known : lacks_factor h.scenario ≡ false
   opened_known = facts.factors
 
-  -- the answer is that of the walk over its blocks, where there is room
-  pub answer_walked : (out : ℕ) → site_answer site out ≡ with_room (length site) out (walk_blocks h.scenario h.medium site h.count 1 0 start start)
+  -- the answer is what is found in its blocks, or else the sums, where there is room
+  pub answer_walked : (out : ℕ) → site_answer site out ≡ with_room (length site) out (result_and (checked_from site h) (sums_from site h))
   unfolding walked_answer
   answer_walked out = walked site out ∙ rw (o.right, o.header)

@@ -8,20 +8,19 @@ use lib.Dec.{eqb, ltb}
 use lib.ListN.{length}
 use borrow.Author.Tests.{eqb-true, eqb-false, ltb-false, le-ltb}
 use Rattle.outcome.specs.declared.Refusal.TheVariants.{Room}
-use Rattle.std.specs.Prelude.{Result, Ok, Err}
+use Rattle.std.specs.Prelude.{Result, Ok, Err, ⊤}
 use Rattle.outcome.specs.declared.Refused.{Refused}
-use Rattle.outcome.specs.Outcome.{located, on_read, refused, number_of}
-use Rattle.outcome.proofs.Numbers.{refusal_numbered}
+use Rattle.outcome.specs.Outcome.{located, on_read, passing, refused, number_of}
+use Rattle.outcome.proofs.Numbers.{not_both, refusal_numbered}
 use Rattle.block_rules.specs.declared.Header.{Header}
 use Rattle.block_rules.specs.Reading.{header_read, contaminant_read}
 use Rattle.sum_rules.specs.Answer.{Sums}
-use Rattle.sum_rules.specs.Share.{start, Running, next}
-use Rattle.sum_rules.specs.ListCall.{taken_in}
-use Rattle.sum_rules.proofs.TakenIn.{taken_passed}
-use Rattle.formulas.specs.Side.{Risk, Hazard}
+use Rattle.guideline_rules.specs.Pathway.{record_refusal}
+use Rattle.std.specs.Result.{result_and}
+use Rattle.outcome.proofs.Tests.{and_ok}
 use Rattle.site_rules.specs.Blocks.{length_ok, block_at, header_of, record_at}
 use Rattle.site_rules.specs.Site.{site_answer}
-use Rattle.site_rules.proofs.Walk.{walk_blocks, with_room}
+use Rattle.site_rules.proofs.Walk.{check_blocks, check_found, with_room, checked_from, sums_from}
 use Rattle.inputs.specs.declared.Scenario.{Scenario}
 use Rattle.inputs.specs.declared.Contaminant.{Contaminant}
 use mathlib.Core.Logic.{◌⊎◌, inl, inr}
@@ -29,48 +28,54 @@ use Rattle.outcome.specs.declared.Refusal.{Refusal}
 use Rattle.site_rules.specs.Passed.{RecordOk, Opened}
 use Rattle.site_rules.proofs.Opened.{found_record, found_is, answer_length, answer_header, header_is, answer_walked}
 
--- an accepted site with the header h: the answer is that of the walk over its blocks
+-- an accepted site with the header h: nothing was found in its blocks, and the answer is the sums over all records
 pub record PassedSite (site : List ℕ) (out : ℕ) (h : Header) : Type 0 where
   pub opened : Opened site h
   pub room : length site ≤ out
-  pub answer : site_answer site out ≡ walk_blocks h.scenario h.medium site h.count 1 0 start start
+  pub checked : checked_from site h ≡ Ok tt
+  pub answer : site_answer site out ≡ sums_from site h
   pub records : (k : ℕ) → 1 ≤ k → k ≤ h.count → RecordOk h.scenario h.medium (record_at site k)
 
 -- an answer that is accepted, in another form
 pub accepted_as : {a b : Result Sums Refused} → a ≡ b → number_of a ≡ 0 → number_of b ≡ 0
 accepted_as e z = subst (λ (a : Result Sums Refused). number_of a ≡ 0) e z
 
--- ---- every record of an accepted walk keeps its rules and has a pathway
+-- ---- where nothing is found, every record keeps its rules and passed its tests
 module _ (s : Scenario) (medium : ℕ) (site : List ℕ) where
   apart : (j k : ℕ) → k ≤ j → (b : Bool) → eqb j k ≡ b → (j ≡ k) ⊎ (k + 1 ≤ j)
   apart j k l true e = inl (eqb-true j k e)
   apart j k l false e = let q = eqb-false j k e in inr (omega (arith, l, q))
 
+  -- behind a record that passed its tests nothing is found either
+  pub found_passed : (n k : ℕ) (r : Contaminant) → check_found s medium site n k r ≡ Ok tt →
+      (record_refusal s medium r ≡ Ok tt) × (check_blocks s medium site n (k + 1) r.id ≡ Ok tt)
+  found_passed n k r = cases (record_refusal s medium r) (check_blocks s medium site n (k + 1) r.id)
+    where
+      cases : (x : Result ⊤ Refusal) (c : Result ⊤ Refused) → passing x k c ≡ Ok tt → (x ≡ Ok tt) × (c ≡ Ok tt)
+      cases (Ok tt) c e = (refl, e)
+      cases (Err m) c e = absurd (not_both (sym e))
+
   -- of the block at place k, or of one after it, by `again`
-  ok_found : (k before j : ℕ) (risk hazard : Running) (r : Contaminant) (w : Result Sums Refused) → contaminant_read (block_at site k) k before ≡ Ok r → (j ≡ k) ⊎ (k + 1 ≤ j) →
-      (number_of w ≡ 0 → k + 1 ≤ j → RecordOk s medium (record_at site j)) → number_of (taken_in s medium k risk hazard r w) ≡ 0 →
-      RecordOk s medium (record_at site j)
-  ok_found k before j risk hazard r w e (inl q) again z =
+  ok_found : (n k before j : ℕ) (r : Contaminant) → contaminant_read (block_at site k) k before ≡ Ok r → (j ≡ k) ⊎ (k + 1 ≤ j) →
+      (check_blocks s medium site n (k + 1) r.id ≡ Ok tt → k + 1 ≤ j → RecordOk s medium (record_at site j)) →
+      check_found s medium site n k r ≡ Ok tt → RecordOk s medium (record_at site j)
+  ok_found n k before j r e (inl q) again z =
       subst (RecordOk s medium) (found_is site k before r e ∙ ap (record_at site) (sym q))
-      (record { fits = (found_record site k before r e).valid; passed = (taken_passed s medium k risk hazard r w z).passed })
-  ok_found k before j risk hazard r w e (inr q) again z = again (accepted_as (taken_passed s medium k risk hazard r w z).is z) q
+      (record { fits = (found_record site k before r e).valid; passed = (found_passed n k r z).0 })
+  ok_found n k before j r e (inr q) again z = again (found_passed n k r z).1 q
 
-  ok_read : (n k before j : ℕ) (risk hazard : Running) → k ≤ j →
-      ((id : ℕ) (x y : Running) → number_of (walk_blocks s medium site n (k + 1) id x y) ≡ 0 → k + 1 ≤ j → RecordOk s medium (record_at site j)) →
+  ok_read : (n k before j : ℕ) → k ≤ j →
+      ((id : ℕ) → check_blocks s medium site n (k + 1) id ≡ Ok tt → k + 1 ≤ j → RecordOk s medium (record_at site j)) →
       (x : Result Contaminant Refusal) → contaminant_read (block_at site k) k before ≡ x →
-      number_of (on_read x (λ (m : Refusal). refused m k)
-      (λ (r : Contaminant). taken_in s medium k risk hazard r (walk_blocks s medium site n (k + 1) r.id (next s medium Risk risk r) (next s medium Hazard hazard r)))) ≡ 0 →
-      RecordOk s medium (record_at site j)
-  ok_read n k before j risk hazard l again (Err m) e z = absurd ((refusal_numbered m).some z)
-  ok_read n k before j risk hazard l again (Ok r) e z =
-      ok_found k before j risk hazard r _ e (apart j k l (eqb j k) refl) (again r.id (next s medium Risk risk r) (next s medium Hazard hazard r)) z
+      on_read x (λ (m : Refusal). refused m k) (check_found s medium site n k) ≡ Ok tt → RecordOk s medium (record_at site j)
+  ok_read n k before j l again (Err m) e z = absurd (not_both (sym z))
+  ok_read n k before j l again (Ok r) e z = ok_found n k before j r e (apart j k l (eqb j k) refl) (again r.id) z
 
-  pub walk_ok : (n k before : ℕ) (risk hazard : Running) → number_of (walk_blocks s medium site n k before risk hazard) ≡ 0 →
-      (j : ℕ) → k ≤ j → j < k + n → RecordOk s medium (record_at site j)
-  unfolding walk_blocks
-  walk_ok zero k before risk hazard h j l u = absurd (omega (arith, l, u))
-  walk_ok (suc n) k before risk hazard h j l u =
-      ok_read n k before j risk hazard l (λ id x y z q. walk_ok n (k + 1) id x y z j q (omega (arith, u))) (contaminant_read (block_at site k) k before) refl h
+  pub check_ok : (n k before : ℕ) → check_blocks s medium site n k before ≡ Ok tt → (j : ℕ) → k ≤ j → j < k + n → RecordOk s medium (record_at site j)
+  unfolding check_blocks
+  check_ok zero k before h j l u = absurd (omega (arith, l, u))
+  check_ok (suc n) k before h j l u =
+      ok_read n k before j l (λ id z q. check_ok n (k + 1) id z j q (omega (arith, u))) (contaminant_read (block_at site k) k before) refl h
 
 -- ---- the room
 -- with enough room the answer stays as it is
@@ -92,14 +97,16 @@ room_enough site out (Err r) z = absurd ((refusal_numbered r.refusal).some z)
 module _ (site : List ℕ) (out : ℕ) (z : number_of (site_answer site out) ≡ 0) where
   with_header : (h : Header) → Opened site h → PassedSite site out h
   with_header h o =
-      let w = walk_blocks h.scenario h.medium site h.count 1 0 start start in
+      let w = result_and (checked_from site h) (sums_from site h) in
       let l = room_enough (length site) out w (accepted_as (answer_walked o out) z) in
       let e = answer_walked o out ∙ room_kept (length site) out w l in
+      let p = (and_ok (checked_from site h) (sums_from site h) (accepted_as e z)).0 in
       record {
         opened = o;
         room = l;
-        answer = e;
-        records = λ k first last. walk_ok h.scenario h.medium site h.count 1 0 start start (accepted_as e z) k first (omega (arith, last));
+        checked = p;
+        answer = e ∙ rw p refl;
+        records = λ k first last. check_ok h.scenario h.medium site h.count 1 0 p k first (omega (arith, last));
       }
 
   -- ---- the header and the length

@@ -20,14 +20,13 @@ use Rattle.formulas.specs.ExactTerm.{exact_present, exact_term, exact_total, exa
 use Rattle.guideline_rules.specs.Guideline.{guidelines_sent, guideline_of}
 use Rattle.guideline_rules.specs.Promise.{pathway_at, Promised}
 use Rattle.formulas.specs.Sides.{side_at}
-use Rattle.guideline_rules.proofs.Accepted.{accepted_inputs}
-use Rattle.guideline_rules.proofs.Promises.{worked, promise, pathway_promises}
+use Rattle.guideline_rules.proofs.Promises.{promise, pathway_promises}
 use Rattle.sum_rules.specs.Answer.{Sums}
 use Rattle.sum_rules.specs.ListCall.{sums_of}
 use Rattle.sum_rules.specs.Promise.{exact_sum, some_pathway, no_concentration, side_sent, ZeroSums, Enclosed, Judged}
 use Rattle.sum_rules.proofs.Verdicts.{sums_enclose, zero_within, verdict_judges}
 use Rattle.sum_rules.proofs.NoPathway.{none_zero}
-use Rattle.site_rules.specs.Blocks.{header_of, record_at, records_from}
+use Rattle.site_rules.specs.Blocks.{header_of, record_at, site_records}
 use Rattle.site_rules.specs.Site.{site_answer}
 use Rattle.site_rules.specs.Passed.{RecordOk}
 use Rattle.site_rules.proofs.Opened.{opened_fits, opened_known}
@@ -38,9 +37,7 @@ use Rattle.site_rules.proofs.SameSums.{site_sums}
 guideline_accepted : (s : Scenario) (medium : ℕ) (r : Contaminant) → scenario_fits s medium ≡ true → lacks_factor s ≡ false → RecordOk s medium r →
     number_of (guideline_of s medium r) ≡ 0
 unfolding guideline_of scenario_refusal
-guideline_accepted s medium r fits known ok =
-    let a = accepted_inputs s medium r fits known ok.fits in
-    rw (fits, known, ok.fits, ok.passed, worked s medium r a)
+guideline_accepted s medium r fits known ok = rw (fits, known, ok.fits, ok.passed)
 
 module _ (site : List ℕ) (out : ℕ) (z : number_of (site_answer site out) ≡ 0) where
   abbrev s : Scenario
@@ -50,7 +47,7 @@ module _ (site : List ℕ) (out : ℕ) (z : number_of (site_answer site out) ≡
   medium = (header_of site).medium
 
   abbrev records : List Contaminant
-  records = records_from site (header_of site).count 1
+  records = site_records site
 
   -- ---- the sums and the verdicts
   listed : number_of (sums_of s medium records) ≡ 0

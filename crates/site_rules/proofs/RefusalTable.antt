@@ -15,7 +15,7 @@ use Rattle.outcome.specs.Outcome.{refused, number_of}
 use Rattle.outcome.proofs.Numbers.{refusal_numbered}
 use Rattle.block_rules.specs.Rules.{in_file, count_ok}
 use Rattle.sum_rules.specs.Answer.{Sums}
-use Rattle.site_rules.specs.Blocks.{length_ok, header_of, records_from, all_sums}
+use Rattle.site_rules.specs.Blocks.{length_ok, header_of, all_sums, site_records}
 use Rattle.site_rules.specs.Site.{site_answer}
 use Rattle.site_rules.specs.Refusals.{Condition, count_condition, site_conditions, first_holding, FirstHolds, NoneHolds, FromTable}
 use Rattle.site_rules.specs.Refusals.FirstHolds.{here, later}
@@ -59,7 +59,7 @@ count_plain site r =
 -- ---- the site
 module _ (site : List ℕ) (out : ℕ) where
   abbrev sums : Result Sums Refused
-  sums = all_sums (header_of site).scenario (header_of site).medium (records_from site (header_of site).count 1)
+  sums = all_sums (header_of site).scenario (header_of site).medium (site_records site)
 
   -- the first condition that holds is sent back
   pub sent_back : {c : Condition} → FirstHolds (site_conditions site out) c → site_answer site out ≡ refused c.refusal c.block

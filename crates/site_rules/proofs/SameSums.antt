@@ -9,22 +9,21 @@ use Rattle.outcome.specs.declared.Refusal.{Refusal}
 use Rattle.std.specs.Prelude.{Result, Ok, Err}
 use Rattle.outcome.specs.declared.Refused.{Refused}
 use Rattle.outcome.specs.Outcome.{on_read, refused, number_of}
-use Rattle.outcome.proofs.Numbers.{refusal_numbered}
+use Rattle.outcome.proofs.Numbers.{not_both}
 use Rattle.inputs.specs.declared.Scenario.{Scenario}
 use Rattle.inputs.specs.declared.Contaminant.{Contaminant}
 use Rattle.block_rules.specs.declared.Header.{Header}
 use Rattle.block_rules.specs.Reading.{contaminant_read}
 use Rattle.formulas.specs.Side.{Risk, Hazard}
 use Rattle.sum_rules.specs.Answer.{Sums}
-use Rattle.sum_rules.specs.Share.{Running, start, next}
-use Rattle.sum_rules.specs.ListCall.{first_refusal, taken_in, walk, sums_of}
-use Rattle.sum_rules.proofs.TakenIn.{taken_passed}
-use Rattle.site_rules.specs.Blocks.{block_at, header_of, record_at, records_from}
+use Rattle.sum_rules.specs.Share.{Running, start, next, run_all}
+use Rattle.sum_rules.specs.ListCall.{accepted, first_refusal, walk, sums_of}
+use Rattle.site_rules.specs.Blocks.{block_at, header_of, record_at, records_from, site_records}
 use Rattle.site_rules.specs.Site.{site_answer}
-use Rattle.site_rules.proofs.Walk.{walk_blocks}
+use Rattle.site_rules.proofs.Walk.{check_blocks, check_found}
 use Rattle.site_rules.specs.Passed.{Opened}
 use Rattle.site_rules.proofs.Opened.{found_record, found_is, opened_fits, opened_known, count_some, count_most}
-use Rattle.site_rules.proofs.Passed.{accepted_as, passed_site}
+use Rattle.site_rules.proofs.Passed.{found_passed, passed_site}
 use Rattle.inputs.specs.Rules.{scenario_fits, lacks_factor}
 
 -- the tests of the list call before its first record
@@ -43,39 +42,33 @@ pub sums_walked : (s : Scenario) (medium : ℕ) (rs : List Contaminant) → firs
 unfolding sums_of
 sums_walked s medium rs e = rw e refl
 
-module _ (s : Scenario) (medium : ℕ) where
-  -- where the answer with a record taken in is accepted, the answer over what is left was so, and may be given in another form
-  taken_same : (k : ℕ) (risk hazard : Running) (r : Contaminant) (w v : Result Sums Refused) → (number_of w ≡ 0 → w ≡ v) →
-      number_of (taken_in s medium k risk hazard r w) ≡ 0 → taken_in s medium k risk hazard r w ≡ taken_in s medium k risk hazard r v
-  taken_same k risk hazard r w v again z = ap (taken_in s medium k risk hazard r) (again (accepted_as (taken_passed s medium k risk hazard r w z).is z))
+-- the sums over the rest of a list, from running sums on
+abbrev pub sums_after : Scenario → ℕ → Running → Running → List Contaminant → Result Sums Refused
+sums_after s medium risk hazard rs = accepted s (run_all s medium Risk risk rs) (run_all s medium Hazard hazard rs)
 
-  module _ (site : List ℕ) where
-    -- a block, by what is read of it; `again` is the same of the blocks after it
-    by_read : (n k before : ℕ) (risk hazard : Running) →
-        ((id : ℕ) (x y : Running) → number_of (walk_blocks s medium site n (k + 1) id x y) ≡ 0 →
-        walk_blocks s medium site n (k + 1) id x y ≡ walk s medium (records_from site n (k + 1)) (k + 1) id x y) →
-        (x : Result Contaminant Refusal) → contaminant_read (block_at site k) k before ≡ x →
-        let a = on_read x (λ (m : Refusal). refused m k)
-        (λ (r : Contaminant). taken_in s medium k risk hazard r (walk_blocks s medium site n (k + 1) r.id (next s medium Risk risk r) (next s medium Hazard hazard r))) in
-        number_of a ≡ 0 → a ≡ walk s medium (record_at site k ∷ records_from site n (k + 1)) k before risk hazard
-    unfolding walk
-    by_read n k before risk hazard again (Err m) e z = absurd ((refusal_numbered m).some z)
-    by_read n k before risk hazard again (Ok r) e z =
-        let f = found_record site k before r e in
-        let x = next s medium Risk risk r in
-        let y = next s medium Hazard hazard r in
-        let w = walk_blocks s medium site n (k + 1) r.id x y in
-        subst (λ (q : Contaminant). taken_in s medium k risk hazard r w ≡ walk s medium (q ∷ records_from site n (k + 1)) k before risk hazard)
-        (found_is site k before r e)
-        (rw (f.valid, lt-leb r.id before f.above)
-        (taken_same k risk hazard r w (walk s medium (records_from site n (k + 1)) (k + 1) r.id x y) (again r.id x y) z))
+module _ (s : Scenario) (medium : ℕ) (site : List ℕ) where
+  -- a block, by what is read of it; `again` is the same of the blocks after it
+  by_read : (n k before : ℕ) (risk hazard : Running) →
+      ((id : ℕ) (x y : Running) → check_blocks s medium site n (k + 1) id ≡ Ok tt →
+      sums_after s medium x y (records_from site n (k + 1)) ≡ walk s medium (records_from site n (k + 1)) (k + 1) id x y) →
+      (x : Result Contaminant Refusal) → contaminant_read (block_at site k) k before ≡ x →
+      on_read x (λ (m : Refusal). refused m k) (check_found s medium site n k) ≡ Ok tt →
+      sums_after s medium risk hazard (record_at site k ∷ records_from site n (k + 1)) ≡ walk s medium (record_at site k ∷ records_from site n (k + 1)) k before risk hazard
+  unfolding walk
+  by_read n k before risk hazard again (Err m) e z = absurd (not_both (sym z))
+  by_read n k before risk hazard again (Ok r) e z =
+      let f = found_record site k before r e in
+      let p = found_passed s medium site n k r z in
+      let rest = records_from site n (k + 1) in
+      subst (λ (q : Contaminant). sums_after s medium risk hazard (q ∷ rest) ≡ walk s medium (q ∷ rest) k before risk hazard) (found_is site k before r e)
+      (rw (f.valid, lt-leb r.id before f.above, p.0) (again r.id (next s medium Risk risk r) (next s medium Hazard hazard r) p.1))
 
-    -- an accepted walk over the blocks is the walk over their records
-    walk_same : (n k before : ℕ) (risk hazard : Running) → number_of (walk_blocks s medium site n k before risk hazard) ≡ 0 →
-        walk_blocks s medium site n k before risk hazard ≡ walk s medium (records_from site n k) k before risk hazard
-    unfolding walk_blocks records_from walk
-    walk_same zero k before risk hazard z = refl
-    walk_same (suc n) k before risk hazard z = by_read n k before risk hazard (walk_same n (k + 1)) (contaminant_read (block_at site k) k before) refl z
+  -- where nothing is found, the list call over the records reports their sums
+  walk_same : (n k before : ℕ) (risk hazard : Running) → check_blocks s medium site n k before ≡ Ok tt →
+      sums_after s medium risk hazard (records_from site n k) ≡ walk s medium (records_from site n k) k before risk hazard
+  unfolding check_blocks records_from walk
+  walk_same zero k before risk hazard z = refl
+  walk_same (suc n) k before risk hazard z = by_read n k before risk hazard (walk_same n (k + 1)) (contaminant_read (block_at site k) k before) refl z
 
 first_passed : {site : List ℕ} {h : Header} → Opened site h → first_refusal h.scenario h.medium (length (records_from site h.count 1)) ≡ Ok tt
 first_passed {site} {h} o =
@@ -84,9 +77,9 @@ first_passed {site} {h} o =
 
 -- THE SAME SUMS AND VERDICTS as the list call over the records of the site
 pub site_sums : (site : List ℕ) (out : ℕ) → number_of (site_answer site out) ≡ 0 →
-    site_answer site out ≡ sums_of (header_of site).scenario (header_of site).medium (records_from site (header_of site).count 1)
+    site_answer site out ≡ sums_of (header_of site).scenario (header_of site).medium (site_records site)
 site_sums site out z =
     let p = passed_site site out z in
     let h = header_of site in
-    p.answer ∙ walk_same h.scenario h.medium site h.count 1 0 start start (accepted_as p.answer z) ∙
+    p.answer ∙ walk_same h.scenario h.medium site h.count 1 0 start start p.checked ∙
     sym (sums_walked h.scenario h.medium (records_from site h.count 1) (first_passed p.opened))

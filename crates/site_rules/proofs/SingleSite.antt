@@ -30,14 +30,10 @@ use Rattle.block_rules.proofs.ResultsBack.{ResultRead}
 use Rattle.guideline_rules.specs.Answer.{Guidelines}
 use Rattle.formulas.specs.Side.{Risk, Hazard}
 use Rattle.guideline_rules.specs.Pathway.{record_refusal}
-use Rattle.guideline_rules.specs.Guideline.{guidelines_sent, guideline_of}
-use Rattle.guideline_rules.proofs.Accepted.{accepted_inputs}
-use Rattle.guideline_rules.proofs.Promises.{worked}
+use Rattle.guideline_rules.specs.Guideline.{guidelines_sent, both_sides, guideline_of}
 use Rattle.sum_rules.specs.Answer.{Sums}
 use Rattle.sum_rules.specs.Share.{start, next}
 use Rattle.sum_rules.specs.ListCall.{walk, accepted}
-use Rattle.sum_rules.proofs.TakenIn.{taken_ranged}
-use Rattle.sum_rules.proofs.InRange.{fair_start, in_range_lem}
 use Rattle.site_rules.specs.Blocks.{block_at, header_of, record_at}
 use Rattle.site_rules.specs.Site.{site_answer}
 use Rattle.site_rules.specs.Results.{site_left}
@@ -79,11 +75,8 @@ module _ (h : Header) (r : Contaminant) (fit : header_fit h ≡ true) (known : l
   walked : answered (walk s m (r ∷ []) 1 0 start start) ≡ answered (guideline_of s m r)
   unfolding walk guideline_of scenario_refusal
   walked =
-      let a = accepted_inputs s m r (opened_fits opened) (opened_known opened) fits in
-      let w = accepted s (next s m Risk start r) (next s m Hazard start r) in
-      let ranged-now = in_range_lem s m (opened_fits opened) (opened_known opened) r (lit≤ tt) fair_start fair_start fits in
-      rw (opened_fits opened, opened_known opened, fits, lt-leb r.id 0 id_some, taken_ranged s m 1 start start r w ranged-now, worked s m r a)
-      (by_tests (record_refusal s m r) w _ refl)
+      rw (opened_fits opened, opened_known opened, fits, lt-leb r.id 0 id_some)
+      (by_tests (record_refusal s m r) (accepted s (next s m Risk start r) (next s m Hazard start r)) (Ok (both_sides s m r)) refl)
 
   -- THE SAME number and block
   pub single_answer : (out : ℕ) → 1024 ≤ out →

@@ -8,10 +8,12 @@ use lib.Dec.{eqb, leb}
 use lib.ListN.{length}
 use borrow.Author.Tests.{eqb-true, not-false}
 use Rattle.outcome.specs.declared.Refusal.{Refusal}
-use Rattle.outcome.specs.declared.Refusal.TheVariants.{Check, Kind, Field, Count, Factor, Order, Range}
+use Rattle.outcome.specs.declared.Refusal.TheVariants.{Check, Kind, Field, Count, Factor, Order}
 use Rattle.std.specs.Prelude.{Result, Ok, Err}
 use Rattle.outcome.specs.declared.Refused.{Refused}
-use Rattle.outcome.specs.Outcome.{on_read, refused, Test, refused_by, passing}
+use Rattle.outcome.specs.Outcome.{on_read, refused, located, Test, refused_by, passing}
+use Rattle.outcome.proofs.Tests.{and_after, read_after}
+use Rattle.std.specs.Result.{result_and}
 use Rattle.words.specs.Words.{word_at}
 use Rattle.inputs.specs.declared.Scenario.{Scenario}
 use Rattle.inputs.specs.declared.Contaminant.{Contaminant}
@@ -22,16 +24,13 @@ use Rattle.block_rules.specs.declared.Header.{Header}
 use Rattle.block_rules.specs.Rules.{in_file, count_ok}
 use Rattle.block_rules.specs.Reading.{sound_at, header_at, header_unused, header_read, contaminant_at, contaminant_unused, contaminant_read}
 use Rattle.block_rules.proofs.Rules.{is_block}
-use Rattle.formulas.specs.Side.{Risk, Hazard}
 use Rattle.guideline_rules.specs.Pathway.{record_tests, record_refusal}
 use Rattle.sum_rules.specs.Answer.{Sums}
-use Rattle.sum_rules.specs.Share.{Running, start, next, run_all}
-use Rattle.sum_rules.specs.ListCall.{block_ranged, accepted, taken_in}
-use Rattle.site_rules.specs.Blocks.{length_ok, block_at, header_of, record_at, records_from, all_sums}
+use Rattle.site_rules.specs.Blocks.{length_ok, block_at, header_of, record_at, records_from, all_sums, site_records}
 use Rattle.site_rules.specs.Site.{site_answer}
-use Rattle.site_rules.specs.Refusals.{Condition, in_block, header_conditions, record_conditions, range_condition, block_conditions, later_conditions, room_condition, site_conditions}
+use Rattle.site_rules.specs.Refusals.{Condition, in_block, header_conditions, record_conditions, block_conditions, later_conditions, room_condition, site_conditions}
 use Rattle.site_rules.specs.Refusals.{first_holding}
-use Rattle.site_rules.proofs.Walk.{walk_blocks, with_room, walked_answer}
+use Rattle.site_rules.proofs.Walk.{check_blocks, check_found, with_room, walked_answer}
 use Rattle.site_rules.proofs.RightLength.{right_length}
 
 -- ---- the first that holds
@@ -44,11 +43,6 @@ first_append (x ∷ xs) ys a = ap (cond x.holds (refused x.refusal x.block)) (fi
 step : {A : Type 0} (on : A → Result Sums Refused) (t : Bool) (x y : A) (v : Result Sums Refused) → (t ≡ false → on y ≡ v) → on (cond t x y) ≡ cond t (on x) v
 step on true x y v h = refl
 step on false x y v h = h refl
-
--- a test said the other way round
-step_not : (t : Bool) (x w v : Result Sums Refused) → w ≡ v → cond t w x ≡ cond (not t) x v
-step_not true x w v h = h
-step_not false x w v h = refl
 
 module _ (b : List ℕ) (f : Refusal → Result Sums Refused) (long : eqb (length b) 512 ≡ true) where
   -- the header: 2 to 6, then what `g` makes of it
@@ -107,48 +101,36 @@ tests_first k (t ∷ ts) v = cases t.holds (tests_first k ts v)
     cases false again = again
 
 -- ---- the later blocks
--- a record by its tests and 9, as lines of the table
-taken_table : (s : Scenario) (medium : ℕ) (site : List ℕ) (k : ℕ) (risk hazard : Running) (w v : Result Sums Refused) → w ≡ v →
-    taken_in s medium k risk hazard (record_at site k) w ≡ first_holding (record_conditions s medium site k ++ range_condition s medium site k risk hazard ∷ []) v
-unfolding taken_in record_refusal
-taken_table s medium site k risk hazard w v h =
-    let r = record_at site k in
-    ap (passing (record_refusal s medium r) k) (step_not (block_ranged s medium risk hazard r) (refused Range k) w v h) ∙
-    tests_first k (record_tests s medium r) _ ∙
-    sym (first_append (record_conditions s medium site k) (range_condition s medium site k risk hazard ∷ []) v)
-
 module _ (s : Scenario) (medium : ℕ) (site : List ℕ) where
   -- inside the site, each is tried by its conditions
-  walk_table : (n k before : ℕ) (risk hazard : Running) → 512 * (k + n) ≤ length site →
-      walk_blocks s medium site n k before risk hazard ≡
-      first_holding (later_conditions s medium site n k before risk hazard)
-      (accepted s (run_all s medium Risk risk (records_from site n k)) (run_all s medium Hazard hazard (records_from site n k)))
-  unfolding walk_blocks later_conditions block_conditions records_from record_at block_at
-  walk_table zero k before risk hazard l = refl
-  walk_table (suc n) k before risk hazard l =
+  check_table : (n k before : ℕ) (v : Result Sums Refused) → 512 * (k + n) ≤ length site →
+      result_and (check_blocks s medium site n k before) v ≡ first_holding (later_conditions s medium site n k before) v
+  unfolding check_blocks later_conditions block_conditions record_refusal record_at block_at
+  check_table zero k before v l = refl
+  check_table (suc n) k before v l =
       let r = record_at site k in
-      let x = next s medium Risk risk r in
-      let y = next s medium Hazard hazard r in
-      let rest = later_conditions s medium site n (k + 1) r.id x y in
-      let end = accepted s (run_all s medium Risk x (records_from site n (k + 1))) (run_all s medium Hazard y (records_from site n (k + 1))) in
-      let own = record_conditions s medium site k ++ range_condition s medium site k risk hazard ∷ [] in
-      block_steps (block_at site k) (λ m. refused m k) (is_block site (512 * k) (omega arith)) k before _ _
-      (taken_table s medium site k risk hazard _ _ (walk_table n (k + 1) r.id x y (omega arith)) ∙ sym (first_append own rest end))
+      let own = record_refusal s medium r in
+      let found = check_found s medium site n k in
+      let rest = later_conditions s medium site n (k + 1) r.id in
+      read_after (contaminant_read (block_at site k) k before) k found v ∙
+      block_steps (block_at site k) (λ m. refused m k) (is_block site (512 * k) (omega arith)) k before (λ q. result_and (found q) v) _
+      (and_after (located own k) (check_blocks s medium site n (k + 1) r.id) v ∙ ap (passing own k) (check_table n (k + 1) r.id v (omega arith)) ∙
+      tests_first k (record_tests s medium r) (first_holding rest v) ∙ sym (first_append (record_conditions s medium site k) rest v))
 
   later_table : (n : ℕ) (out : ℕ) → 512 * n + 512 ≤ length site →
-      with_room (length site) out (walk_blocks s medium site n 1 0 start start) ≡
-      first_holding (later_conditions s medium site n 1 0 start start ++ room_condition site out ∷ []) (all_sums s medium (records_from site n 1))
+      let sums = all_sums s medium (records_from site n 1) in
+      with_room (length site) out (result_and (check_blocks s medium site n 1 0) sums) ≡ first_holding (later_conditions s medium site n 1 0 ++ room_condition site out ∷ []) sums
   unfolding with_room
   later_table n out l =
       let sums = all_sums s medium (records_from site n 1) in
-      ap (with_room (length site) out) (walk_table n 1 0 start start (omega arith)) ∙
-      room_last (later_conditions s medium site n 1 0 start start) (length site) out sums ∙
-      sym (first_append (later_conditions s medium site n 1 0 start start) (room_condition site out ∷ []) sums)
+      ap (with_room (length site) out) (check_table n 1 0 sums (omega arith)) ∙
+      room_last (later_conditions s medium site n 1 0) (length site) out sums ∙
+      sym (first_append (later_conditions s medium site n 1 0) (room_condition site out ∷ []) sums)
 
 -- ---- the site
 module _ (site : List ℕ) (out : ℕ) where
   abbrev sums : Result Sums Refused
-  sums = all_sums (header_of site).scenario (header_of site).medium (records_from site (header_of site).count 1)
+  sums = all_sums (header_of site).scenario (header_of site).medium (site_records site)
 
   -- a count that passed 5 is that of the blocks behind the header
   site_whole : length_ok (length site) ≡ true → count_ok (header_of site).count (length site / 512) ≡ true → 512 * (header_of site).count + 512 ≤ length site

@@ -10,8 +10,10 @@ use lib.Seq.{take_at, drop_at}
 use borrow.Author.Tests.{le-leb, eq-eqb}
 use Rattle.std.specs.Prelude.{Result, Ok, Err}
 use Rattle.outcome.specs.declared.Refusal.{Refusal}
-use Rattle.outcome.specs.declared.Refused.{Refused}
-use Rattle.outcome.specs.Outcome.{on_read, refused}
+use Rattle.outcome.specs.Outcome.{located, on_read, passing, refused}
+use Rattle.outcome.proofs.Tests.{and_after}
+use Rattle.std.specs.Result.{result_and}
+use Rattle.guideline_rules.specs.Pathway.{record_refusal}
 use Rattle.outcome.specs.declared.Refusal.TheVariants.{Order}
 use Rattle.inputs.specs.declared.Scenario.{Scenario}
 use Rattle.inputs.specs.declared.Contaminant.{Contaminant}
@@ -27,18 +29,17 @@ use Rattle.block_rules.specs.Layouts.{header_block, contaminant_block}
 use Rattle.block_rules.specs.Answers.{header_fit, contaminant_fit}
 use Rattle.block_rules.proofs.HeaderBack.{header_length, header_back}
 use Rattle.block_rules.proofs.ContaminantBack.{contaminant_length, contaminant_read_back}
-use Rattle.sum_rules.specs.Answer.{Sums}
 use Rattle.sum_rules.specs.Share.{Running, start, next}
-use Rattle.sum_rules.specs.ListCall.{first_refusal, taken_in, walk, sums_of}
+use Rattle.sum_rules.specs.ListCall.{first_refusal, walk, sums_of}
 use Rattle.formulas.specs.Side.{Risk, Hazard}
-use Rattle.site_rules.specs.Blocks.{length_ok, block_at}
+use Rattle.site_rules.specs.Blocks.{length_ok, block_at, record_at, records_from}
 use Rattle.site_rules.specs.Site.{site_answer}
-use Rattle.site_rules.proofs.Walk.{walk_blocks}
+use Rattle.site_rules.proofs.Walk.{check_blocks, check_found, checked_from, sums_from}
 use Rattle.site_rules.specs.Passed.{Opened}
 use Rattle.site_rules.specs.Written.{blocks_from, site_of, Writable}
 use Rattle.site_rules.specs.Written.Writable.{nobody, also}
-use Rattle.site_rules.proofs.Opened.{opened_fits, opened_known, count_some, count_most, answer_walked}
-use Rattle.site_rules.proofs.SameSums.{first_accepted, sums_walked}
+use Rattle.site_rules.proofs.Opened.{found_is, opened_fits, opened_known, count_some, count_most, answer_walked}
+use Rattle.site_rules.proofs.SameSums.{first_accepted, sums_walked, sums_after}
 use Rattle.site_rules.proofs.Passed.{room_kept}
 
 -- ---- the walk over the blocks of a site that holds them from place k on
@@ -52,15 +53,26 @@ module _ (s : Scenario) (medium : ℕ) (site : List ℕ) where
       ap (λ (b : List ℕ). contaminant_read b k before) (take_at (contaminant_block k r) rest 512 (contaminant_length k r)) ∙
       contaminant_read_back k before r (rw (le-leb 1 k l, le-leb k 120 u, fits)) small
 
-  -- a block by its order, where the rest of the walk is the same
-  by_order : (k : ℕ) (r : Contaminant) (w : Contaminant → Result Sums Refused) (v : Result Sums Refused) → w r ≡ v → (b : Bool) →
-      on_read (cond b (Err Order) (Ok r)) (λ (m : Refusal). refused m k) w ≡ cond b (refused Order k) v
-  by_order k r w v e true = refl
-  by_order k r w v e false = e
+  -- what is found of such a block by its order, and from its record on
+  by_order : (n k before : ℕ) (risk hazard : Running) (r : Contaminant) (rs : List Contaminant) →
+      let x = next s medium Risk risk r in
+      let y = next s medium Hazard hazard r in
+      result_and (check_blocks s medium site n (k + 1) r.id) (sums_after s medium x y (records_from site n (k + 1))) ≡ walk s medium rs (k + 1) r.id x y →
+      (b : Bool) → contaminant_read (block_at site k) k before ≡ cond b (Err Order) (Ok r) →
+      result_and (on_read (cond b (Err Order) (Ok r)) (λ (m : Refusal). refused m k) (check_found s medium site n k))
+      (sums_after s medium risk hazard (record_at site k ∷ records_from site n (k + 1))) ≡
+      cond b (refused Order k) (passing (record_refusal s medium r) k (walk s medium rs (k + 1) r.id x y))
+  by_order n k before risk hazard r rs again true e = refl
+  by_order n k before risk hazard r rs again false e =
+      let own = record_refusal s medium r in
+      let rest = records_from site n (k + 1) in
+      let found = check_found s medium site n k r in
+      ap (λ (q : Contaminant). result_and found (sums_after s medium risk hazard (q ∷ rest))) (sym (found_is site k before r e)) ∙
+      and_after (located own k) (check_blocks s medium site n (k + 1) r.id) (sums_after s medium risk hazard (r ∷ rest)) ∙ ap (passing own k) again
 
   walk_written : (rs : List Contaminant) (k before : ℕ) (risk hazard : Running) → Writable rs → 1 ≤ k → k + length rs ≤ 121 → drop (512 * k) site ≡ blocks_from k rs →
-      walk_blocks s medium site (length rs) k before risk hazard ≡ walk s medium rs k before risk hazard
-  unfolding walk_blocks walk blocks_from
+      result_and (check_blocks s medium site (length rs) k before) (sums_after s medium risk hazard (records_from site (length rs) k)) ≡ walk s medium rs k before risk hazard
+  unfolding check_blocks records_from walk blocks_from
   walk_written [] k before risk hazard nobody l u e = refl
   walk_written (r ∷ rs) k before risk hazard (also fits small all) l u e =
       let x = next s medium Risk risk r in
@@ -68,13 +80,12 @@ module _ (s : Scenario) (medium : ℕ) (site : List ℕ) where
       let place : 512 * k + 512 ≡ 512 * (k + 1) = omega arith in
       let behind : drop (512 * (k + 1)) site ≡ blocks_from (k + 1) rs =
       ap (λ (n : ℕ). drop n site) (sym place) ∙ rest_next site (contaminant_block k r) (blocks_from (k + 1) rs) (512 * k) 512 e (contaminant_length k r) in
-      let taken : Contaminant → Result Sums Refused = λ q.
-      taken_in s medium k risk hazard q (walk_blocks s medium site (length rs) (k + 1) q.id (next s medium Risk risk q) (next s medium Hazard hazard q)) in
+      let read = block_read k before r (blocks_from (k + 1) rs) e l (omega arith) fits small in
+      let found = check_found s medium site (length rs) k in
+      let sums = sums_after s medium risk hazard (record_at site k ∷ records_from site (length rs) (k + 1)) in
       rw fits
-      (ap (λ (q : Result Contaminant Refusal). on_read q (λ (m : Refusal). refused m k) taken)
-      (block_read k before r (blocks_from (k + 1) rs) e l (omega arith) fits small) ∙
-      by_order k r taken (taken_in s medium k risk hazard r (walk s medium rs (k + 1) r.id x y))
-      (ap (taken_in s medium k risk hazard r) (walk_written rs (k + 1) r.id x y all (omega arith) (omega arith) behind)) (leb r.id before))
+      (ap (λ (q : Result Contaminant Refusal). result_and (on_read q (λ (m : Refusal). refused m k) found) sums) read ∙
+      by_order (length rs) k before risk hazard r rs (walk_written rs (k + 1) r.id x y all (omega arith) (omega arith) behind) (leb r.id before) read)
 
 -- ---- the site
 blocks_long : (k : ℕ) (rs : List Contaminant) → length (blocks_from k rs) ≡ 512 * length rs
@@ -122,7 +133,7 @@ module _ (h : Header) (rs : List Contaminant) (fit : header_fit h ≡ true) (kno
       let m = h.medium in
       let site = site_of h rs in
       let o = written_opened in
-      answer_walked o out ∙ room_kept (length site) out (walk_blocks s m site h.count 1 0 start start) (omega (arith, written_length h rs)) ∙
-      ap (λ (n : ℕ). walk_blocks s m site n 1 0 start start) counted ∙
+      answer_walked o out ∙ room_kept (length site) out (result_and (checked_from site h) (sums_from site h)) (omega (arith, written_length h rs)) ∙
+      ap (λ (n : ℕ). result_and (check_blocks s m site n 1 0) (sums_after s m start start (records_from site n 1))) counted ∙
       walk_written s m site rs 1 0 start start all (omega arith) (omega (arith, count_fits)) behind_header ∙
       sym (sums_walked s m rs (ap (first_refusal s m) (sym counted) ∙ first_accepted s m h.count (count_some o) (count_most o) (opened_fits o) (opened_known o)))

@@ -33,6 +33,10 @@ unfoldable pub records_from : List ℕ → ℕ → ℕ → List Contaminant
 records_from site zero k = []
 records_from site (suc n) k = record_at site k ∷ records_from site n (k + 1)
 
+-- those of the site
+abbrev pub site_records : List ℕ → List Contaminant
+site_records site = records_from site (header_of site).count 1
+
 -- the answer that reports the sums of a list
 abbrev pub all_sums : Scenario → ℕ → List Contaminant → Result Sums Refused
 all_sums s medium rs = accepted s (run_all s medium Risk start rs) (run_all s medium Hazard start rs)

@@ -5,3 +5,4 @@ pub mod Results
 pub mod Passed
 pub mod Bounds
 pub mod Written
+pub mod Steps

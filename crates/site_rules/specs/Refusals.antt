@@ -2,7 +2,7 @@
 -- test, and all of them in the order in which they are tried. The first that holds is sent back, with the block that was tested.
 use Rattle.std.specs.Prelude.{◌≡◌, Bool, true, false, cond, not, ◌&&◌, List, [], ◌∷◌, ◌++◌, map, ℕ, zero, suc, ◌+◌, ◌/◌, length, eqb, leb, ltb, Result}
 use Rattle.outcome.specs.declared.Refusal.{Refusal}
-use Rattle.outcome.specs.declared.Refusal.TheVariants.{Length, Check, Kind, Field, Count, Factor, Order, Range, Room}
+use Rattle.outcome.specs.declared.Refusal.TheVariants.{Length, Check, Kind, Field, Count, Factor, Order, Room}
 use Rattle.outcome.specs.declared.Refused.{Refused}
 use Rattle.outcome.specs.Outcome.{refused, Test}
 use Rattle.words.specs.Words.{word_at}
@@ -10,11 +10,8 @@ use Rattle.inputs.specs.declared.Scenario.{Scenario}
 use Rattle.inputs.specs.Rules.{scenario_fits, lacks_factor, contaminant_fits}
 use Rattle.block_rules.specs.Rules.{count_ok, block_size}
 use Rattle.block_rules.specs.Reading.{sound_at, header_unused, contaminant_unused}
-use Rattle.formulas.specs.Side.{Risk, Hazard}
 use Rattle.guideline_rules.specs.Pathway.{record_tests}
 use Rattle.sum_rules.specs.Answer.{Sums}
-use Rattle.sum_rules.specs.Share.{Running, start, next}
-use Rattle.sum_rules.specs.ListCall.{block_ranged}
 use Rattle.site_rules.specs.Blocks.{length_ok, block_at, header_of, record_at}
 
 -- a line of the table: what is sent back, the block that is tested, and whether the condition holds
@@ -66,38 +63,31 @@ in_block k t = condition t.refusal k t.holds
 abbrev pub record_conditions : Scenario → ℕ → List ℕ → ℕ → List Condition
 record_conditions s medium site k = map (in_block k) (record_tests s medium (record_at site k))
 
--- 9 Range: an e outside -999 to 999 in that block's terms, guidelines, share or running sums
-abbrev pub range_condition : Scenario → ℕ → List ℕ → ℕ → Running → Running → Condition
-range_condition s medium site k risk hazard = condition Range k (not (block_ranged s medium risk hazard (record_at site k)))
-
 -- 10 Room: output under the site's length
 abbrev pub room_condition : List ℕ → ℕ → Condition
 room_condition site out = condition Room 0 (ltb out (length site))
 
--- ---- their order: 1; the header 2 to 6; each later block 2, 3, 4, 7, the tests of a record, 9; last 10
+-- ---- their order: 1; the header 2 to 6; each later block 2, 3, 4, 7, the tests of a record; last 10
 -- the header: 2, 3, 4, 5, 6
 unfoldable pub header_conditions : List ℕ → List Condition
 header_conditions site = check_condition site 0 ∷ kind_condition 1 site 0 ∷ header_field_condition site ∷ count_condition site ∷ factor_condition site ∷ []
 
--- the block at place k, after the id `before` and with these sums so far: 2, 3, 4, 7, the tests of a record, 9
-unfoldable pub block_conditions : Scenario → ℕ → List ℕ → ℕ → ℕ → Running → Running → List Condition
-block_conditions s medium site k before risk hazard =
-    check_condition site k ∷ kind_condition 2 site k ∷ block_field_condition site k ∷ order_condition site k before ∷
-    record_conditions s medium site k ++ range_condition s medium site k risk hazard ∷ []
+-- the block at place k, after the id `before`: 2, 3, 4, 7, the tests of a record
+unfoldable pub block_conditions : Scenario → ℕ → List ℕ → ℕ → ℕ → List Condition
+block_conditions s medium site k before =
+    check_condition site k ∷ kind_condition 2 site k ∷ block_field_condition site k ∷ order_condition site k before ∷ record_conditions s medium site k
 
--- n blocks, the first at place k: each after the id of the block before it, and with the sums over all blocks before it
-unfoldable pub later_conditions : Scenario → ℕ → List ℕ → ℕ → ℕ → ℕ → Running → Running → List Condition
-later_conditions s medium site zero k before risk hazard = []
-later_conditions s medium site (suc n) k before risk hazard =
-    block_conditions s medium site k before risk hazard ++
-    later_conditions s medium site n (k + 1) (record_at site k).id (next s medium Risk risk (record_at site k)) (next s medium Hazard hazard (record_at site k))
+-- n blocks, the first at place k: each after the id of the block before it
+unfoldable pub later_conditions : Scenario → ℕ → List ℕ → ℕ → ℕ → ℕ → List Condition
+later_conditions s medium site zero k before = []
+later_conditions s medium site (suc n) k before = block_conditions s medium site k before ++ later_conditions s medium site n (k + 1) (record_at site k).id
 
 -- the whole table of a site and an output of so many bytes
 unfoldable pub site_conditions : List ℕ → ℕ → List Condition
 site_conditions site out =
     length_condition site ∷
     header_conditions site ++
-    later_conditions (header_of site).scenario (header_of site).medium site (header_of site).count 1 0 start start ++
+    later_conditions (header_of site).scenario (header_of site).medium site (header_of site).count 1 0 ++
     room_condition site out ∷ []
 
 -- ---- the first that holds

@@ -2,9 +2,9 @@
 use Rattle.std.specs.Prelude.{ℕ, List, Result}
 use Rattle.outcome.specs.declared.Refused.{Refused}
 use Rattle.sum_rules.specs.Answer.{Sums}
-use Rattle.site_rules.specs.Blocks.{header_of, records_from, all_sums}
+use Rattle.site_rules.specs.Blocks.{header_of, all_sums, site_records}
 use Rattle.site_rules.specs.Refusals.{site_conditions, first_holding}
 
 -- the first condition of the table that holds, or else the sums over all records
 unfoldable pub site_answer : List ℕ → ℕ → Result Sums Refused
-site_answer site out = first_holding (site_conditions site out) (all_sums (header_of site).scenario (header_of site).medium (records_from site (header_of site).count 1))
+site_answer site out = first_holding (site_conditions site out) (all_sums (header_of site).scenario (header_of site).medium (site_records site))

@@ -1,88 +1,81 @@
--- Refusal 9 does not occur in a list call: at the level of the definitions, once for both directions and both sides. Assumes nothing.
+-- Every decimal on the way to the sums of an accepted list is a working decimal with an e from -999 to 999, on each side and in each
+-- direction. Assumes nothing.
 use mathlib.Core.Path.{◌≡◌, refl}
-use mathlib.Core.Bool.{true, false}
-use mathlib.Core.List.{List, [], ◌∷◌, ◌++◌}
+use mathlib.Core.Bool.{true}
+use mathlib.Core.List.{List, [], ◌∷◌}
 use Prim.Native.Nat.{ℕ, ◌+◌, ◌≤◌}
 use native.Mathlib.Omega.{arith}
-use lib.Dec.{lit<, lit≤}
+use lib.Dec.{lit≤}
+use lib.ListN.{length}
 use Rattle.rounding.specs.declared.Direction.{Direction}
 use Rattle.rounding.specs.declared.Direction.TheVariants.{Down, Up}
-use Rattle.decimal.specs.declared.Decimal.{Decimal}
-use Rattle.decimal.specs.Exponent.{in_range}
-use Rattle.decimal.specs.Decimal.{add_of}
-use Rattle.decimal.specs.Fraction.{Fraction, nothing, plus}
-use Rattle.decimal.proofs.Approximation.{Fair, fair_most, fair_add}
-use Rattle.decimal.proofs.Approximation.Fair.{none}
+use Rattle.decimal.specs.Range.{added_range}
+use Rattle.decimal.specs.Decimal.{all_operands}
+use Rattle.std.specs.List.{flat_map}
+use Rattle.decimal.proofs.Value.{Value, value_most, fair_value}
+use Rattle.decimal.proofs.Value.Value.{absent}
+use Rattle.decimal.proofs.Steps.{operands_append, value_operand, value_add}
+use Rattle.outcome.specs.Outcome.{number_of}
 use Rattle.inputs.specs.declared.Scenario.{Scenario}
 use Rattle.inputs.specs.declared.Contaminant.{Contaminant}
-use Rattle.inputs.specs.Rules.{scenario_fits, lacks_factor, contaminant_fits, most_contaminants}
-use Rattle.decimal.specs.Range.{Range, added_range}
-use Rattle.formulas.specs.Target.{working_target}
-use Rattle.formulas.specs.Limits.{share_roundings, share_range}
-use Rattle.inputs.proofs.Tests.{and_split}
-use Rattle.formulas.specs.Side.{Side, Risk, Hazard}
-use Rattle.formulas.specs.Term.{formulas_for, values_for}
-use Rattle.guideline_rules.specs.Guideline.{all_ranged, side_decimals}
-use Rattle.guideline_rules.proofs.Accepted.{Accepted, accepted_inputs}
-use Rattle.decimal.proofs.Value.{value_inside, fair_value}
-use Rattle.guideline_rules.proofs.Promises.{term_bounds, ranged}
-use Rattle.sum_rules.specs.Share.{Running, start, next, share_of, exact_share}
-use Rattle.sum_rules.specs.ListCall.{sum_decimals, block_decimals, block_ranged}
-use Rattle.sum_rules.proofs.ShareBounds.{sum_bounds, share_bounds}
+use Rattle.inputs.specs.Rules.{most_contaminants}
+use Rattle.formulas.specs.Side.{Side}
+use Rattle.formulas.specs.Limits.{share_range}
+use Rattle.formulas.specs.Steps.{steps_for}
+use Rattle.guideline_rules.proofs.Accepted.{Accepted}
+use Rattle.guideline_rules.proofs.InRange.{terms_in_range}
+use Rattle.sum_rules.specs.Share.{Running, run_sum, start, next, used_of, share_of}
+use Rattle.sum_rules.specs.ListCall.{sums_of}
+use Rattle.sum_rules.specs.Steps.{share_steps, run_steps, list_steps}
+use Rattle.sum_rules.proofs.ShareBounds.{AllAccepted, concentration, share_bounds}
+use Rattle.sum_rules.proofs.ShareBounds.AllAccepted.{nobody, also}
+use Rattle.sum_rules.proofs.Runs.{next_sum, AcceptedList, accepted_list}
+use Rattle.sum_rules.proofs.Verdicts.{scenario_valid}
+use Rattle.formulas.proofs.ValueBounds.{target_fair}
 
-ranged_append : (xs ys : List Decimal) → all_ranged xs ≡ true → all_ranged ys ≡ true → all_ranged (xs ++ ys) ≡ true
-ranged_append [] ys h k = k
-ranged_append (x ∷ xs) ys h k = let p = and_split (in_range x.e) (all_ranged xs) h in rw p.0 (ranged_append xs ys p.1 k)
+module _ (dir : Direction) (s : Scenario) (medium : ℕ) (side : Side) where
+  -- ---- one record
+  share_value : (r : Contaminant) → Accepted s medium r → Value share_range (share_of s medium r dir side)
+  share_value r a = fair_value (share_bounds s medium side dir r a)
 
-pub fair_inside : {dir : Direction} {k : ℕ} {w : Range} {d : Decimal} {q : Fraction} → Fair dir k w d q → in_range d.e ≡ true
-fair_inside f = (value_inside (fair_value f)).inside
+  share_in_range : (r : Contaminant) → Accepted s medium r → all_operands (share_steps dir s medium side r) ≡ true
+  share_in_range r a =
+      operands_append (steps_for dir s medium r side) (used_of r dir ∷ share_of s medium r dir side ∷ []) (terms_in_range s medium r a dir side)
+      (rw (value_operand (fair_value (concentration s medium side dir r a)), value_operand (share_value r a)))
 
--- the running sums of a side after n records stand for a fraction in both directions
-pub record FairRun (n : ℕ) (t : Running) : Type 0 where
-  pub exact : Fraction
-  pub lower : Fair Down (share_roundings + n) (added_range n share_range) t.lower exact
-  pub upper : Fair Up (share_roundings + n) (added_range n share_range) t.upper exact
+  shares_in_range : (rs : List Contaminant) → AllAccepted s medium rs → all_operands (flat_map (share_steps dir s medium side) rs) ≡ true
+  shares_in_range [] nobody = refl
+  shares_in_range (r ∷ rs) (also a as') =
+      operands_append (share_steps dir s medium side r) (flat_map (share_steps dir s medium side) rs) (share_in_range r a) (shares_in_range rs as')
 
-pub fair_start : FairRun 0 start
-fair_start = record { exact = nothing; lower = none refl refl (lit< tt); upper = none refl refl (lit< tt) }
+  -- ---- the running sums: after n records an addition more each
+  next_value : (n : ℕ) (t : Running) (r : Contaminant) → Accepted s medium r → n + 1 ≤ most_contaminants → Value (added_range n share_range) (run_sum dir t) →
+      Value (added_range (n + 1) share_range) (run_sum dir (next s medium side t r))
+  next_value n t r a h f =
+      let share = value_most {w = added_range n share_range} (record { low = lit≤ tt; high = omega arith }) (share_value r a) in
+      rw (next_sum dir s medium side t r)
+      (value_most (record { low = lit≤ tt; high = omega arith }) (value_add dir (record { low = lit≤ tt; high = omega (arith, h) }) f share))
 
-module _ (s : Scenario) (medium : ℕ) (side : Side) (r : Contaminant) (a : Accepted s medium r) where
-  fair_added : (dir : Direction) {n : ℕ} {d : Decimal} {q : Fraction} → n ≤ most_contaminants → Fair dir (share_roundings + n) (added_range n share_range) d q →
-      Fair dir (share_roundings + (n + 1)) (added_range (n + 1) share_range) (add_of d (share_of s medium r dir side) dir) (plus q (exact_share s medium side r))
-  fair_added dir {n} h f =
-      fair_most dir {j = 1 + (share_roundings + n)} {v = added_range 1 (added_range n share_range)} (omega arith) (record { low = lit≤ tt; high = omega arith })
-      (fair_add dir (record { low = lit≤ tt; high = omega (arith, h) }) f
-      (fair_most dir (omega arith) (record { low = lit≤ tt; high = omega arith }) (share_bounds s medium side dir r a)))
+  run_in_range : (rs : List Contaminant) → AllAccepted s medium rs → (n : ℕ) (t : Running) → n + length rs ≤ most_contaminants → Value (added_range n share_range) (run_sum dir t) →
+      all_operands (run_steps dir s medium side t rs) ≡ true
+  run_in_range [] nobody n t h f = rw (value_operand f)
+  run_in_range (r ∷ rs) (also a as') n t h f =
+      let after = next s medium side t r in
+      operands_append (run_sum dir t ∷ []) (run_steps dir s medium side after rs) (rw (value_operand f))
+      (run_in_range rs as' (n + 1) after (omega (arith, h)) (next_value n t r a (omega (arith, h)) f))
 
-  pub fair_next : {n : ℕ} {t : Running} → n ≤ most_contaminants → FairRun n t → FairRun (n + 1) (next s medium side t r)
-  fair_next h f = record {
-    exact = plus f.exact (exact_share s medium side r);
-    lower = fair_added Down h f.lower;
-    upper = fair_added Up h f.upper;
-  }
+start_value : (dir : Direction) → Value (added_range 0 share_range) (run_sum dir start)
+start_value Down = absent refl
+start_value Up = absent refl
 
-  guidelines_in_range : all_ranged (side_decimals (values_for Up s r) (working_target s side) (formulas_for s medium r side)) ≡ true
-  guidelines_in_range = ranged s medium r a side
+module _ (s : Scenario) (medium : ℕ) (rs : List Contaminant) (z : number_of (sums_of s medium rs) ≡ 0) where
+  list : AcceptedList s medium rs
+  list = accepted_list s medium rs z
 
-  -- REFUSAL 9 does not occur
-  pub block_in_range : {n : ℕ} {t : Running} → n ≤ most_contaminants → FairRun n t → all_ranged (block_decimals s medium side t r) ≡ true
-  block_in_range {n} {t} h f =
-      ranged_append (side_decimals (values_for Up s r) (working_target s side) (formulas_for s medium r side)) (sum_decimals s medium side t r)
-      guidelines_in_range
-      (rw (
-        fair_inside (term_bounds Down s medium r a side 0),
-        fair_inside (term_bounds Down s medium r a side 1),
-        fair_inside (term_bounds Down s medium r a side 2),
-        fair_inside (sum_bounds s medium side Down r a),
-        fair_inside (share_bounds s medium side Down r a),
-        fair_inside (share_bounds s medium side Up r a),
-        fair_inside (fair_next h f).lower,
-        fair_inside (fair_next h f).upper,
-      ))
-
-module _ (s : Scenario) (medium : ℕ) (fits : scenario_fits s medium ≡ true) (known : lacks_factor s ≡ false) where
-  pub in_range_lem : {k : ℕ} {risk hazard : Running} (r : Contaminant) → k ≤ most_contaminants → FairRun k risk → FairRun k hazard → contaminant_fits r ≡ true →
-      block_ranged s medium risk hazard r ≡ true
-  in_range_lem r h f g e =
-      let a = accepted_inputs s medium r fits known e in
-      rw (block_in_range s medium Risk r a h f, block_in_range s medium Hazard r a h g)
+  -- THE LIST
+  pub list_in_range : (dir : Direction) (side : Side) → all_operands (list_steps dir s medium side rs) ≡ true
+  unfolding list_steps
+  list_in_range dir side =
+      rw (value_operand (fair_value (target_fair Up s (scenario_valid s medium rs list.all list.some) side)))
+      (operands_append (flat_map (share_steps dir s medium side) rs) (run_steps dir s medium side start rs) (shares_in_range dir s medium side rs list.all)
+      (run_in_range dir s medium side rs list.all 0 start (omega (arith, list.most)) (start_value dir)))

@@ -1,9 +1,8 @@
 pub mod ShareBounds
-pub mod TakenIn
 pub mod Runs
 pub mod Verdicts
 pub mod NoPathway
 pub mod InRange
-pub mod NeverOutOfRange
+pub mod OnTheWay
 pub mod ExampleSums
 pub mod AnswerBounds

@@ -13,7 +13,7 @@ use Rattle.decimal.specs.declared.Decimal.{Decimal}
 use Rattle.decimal.specs.Decimal.{zero_of, add_of}
 use Rattle.decimal.specs.Lists.{added}
 use Rattle.outcome.specs.declared.Refusal.TheVariants.{Length, Field, Order}
-use Rattle.outcome.specs.Outcome.{number_of, test, refused, refused_by}
+use Rattle.outcome.specs.Outcome.{number_of, test, refused, refused_by, passing}
 use Rattle.outcome.specs.declared.Refused.{Refused}
 use Rattle.outcome.proofs.Numbers.{not_both}
 use Rattle.outcome.proofs.Tests.{passing_ok}
@@ -25,14 +25,13 @@ use Rattle.inputs.proofs.Tests.{and_split}
 use Rattle.formulas.specs.Side.{Side, Risk, Hazard}
 use Rattle.formulas.specs.Term.{formulas_for, values_for}
 use Rattle.formulas.specs.ExactTerm.{exact_for, any_present}
-use Rattle.guideline_rules.specs.Pathway.{has_pathway}
+use Rattle.guideline_rules.specs.Pathway.{has_pathway, record_refusal}
 use Rattle.guideline_rules.proofs.Accepted.{Accepted, Fits, accepted_inputs, scenario_passed, values_of_lem}
 use Rattle.guideline_rules.proofs.WorkedOut.{any_same}
 use Rattle.sum_rules.specs.Answer.{Sums}
 use Rattle.sum_rules.specs.Share.{Running, run_sum, start, next, run_all, share_of}
-use Rattle.sum_rules.specs.ListCall.{side_sums, accepted, first_refusal, taken_in, walk, sums_of}
+use Rattle.sum_rules.specs.ListCall.{side_sums, accepted, first_refusal, walk, sums_of}
 use Rattle.sum_rules.specs.Promise.{some_pathway, sent_of, side_sent}
-use Rattle.sum_rules.proofs.TakenIn.{taken_passed}
 use Rattle.sum_rules.proofs.ShareBounds.{AllAccepted}
 use Rattle.sum_rules.proofs.ShareBounds.AllAccepted.{nobody, also}
 
@@ -63,7 +62,8 @@ unfolding has_pathway
 has_same s medium side r a = any_same (values_for Up s r) (exact_for s r) (values_of_lem Up s medium r a) (formulas_for s medium r side)
 
 -- whether some record of the list has one
-pub run_any : (s : Scenario) (medium : ℕ) (side : Side) (rs : List Contaminant) → AllAccepted s medium rs → (t : Running) → (run_all s medium side t rs).any ≡ t.any || some_pathway s medium side rs
+pub run_any : (s : Scenario) (medium : ℕ) (side : Side) (rs : List Contaminant) → AllAccepted s medium rs → (t : Running) →
+    (run_all s medium side t rs).any ≡ t.any || some_pathway s medium side rs
 run_any s medium side [] nobody t = sym (or-false t.any)
 run_any s medium side (r ∷ rs) (also a as') t =
     run_any s medium side rs as' (next s medium side t r) ∙ or_assoc t.any (has_pathway s medium r side) (some_pathway s medium side rs) ∙
@@ -77,12 +77,12 @@ record Walked (s : Scenario) (medium : ℕ) (rs : List Contaminant) (risk hazard
 -- a record that is taken in: it keeps its rules, and the rest was walked
 step_cases : (s : Scenario) (medium : ℕ) (r : Contaminant) (rs : List Contaminant) (n : ℕ) (risk hazard : Running) (w : Result Sums Refused) (a b : Bool) →
     contaminant_fits r ≡ a → Fits s medium → (number_of w ≡ 0 → Walked s medium rs (next s medium Risk risk r) (next s medium Hazard hazard r) w) →
-    number_of (cond a (cond b (refused Order n) (taken_in s medium n risk hazard r w)) (refused Field n)) ≡ 0 →
-    Walked s medium (r ∷ rs) risk hazard (cond a (cond b (refused Order n) (taken_in s medium n risk hazard r w)) (refused Field n))
+    let v = cond a (cond b (refused Order n) (passing (record_refusal s medium r) n w)) (refused Field n) in
+    number_of v ≡ 0 → Walked s medium (r ∷ rs) risk hazard v
 step_cases s medium r rs n risk hazard w true false e g again h =
-    let t = taken_passed s medium n risk hazard r w h in
-    let p = again (ap (λ (v : Result Sums Refused). number_of v) (sym t.is) ∙ h) in
-    record { all = also (accepted_inputs s medium r g.fits g.factors e) p.all; is = t.is ∙ p.is }
+    let t = passing_ok (record_refusal s medium r) n w h in
+    let p = again t.1 in
+    record { all = also (accepted_inputs s medium r g.fits g.factors e) p.all; is = rw t.0 p.is }
 step_cases s medium r rs n risk hazard w true true e g again h = absurd (omega (arith, h))
 step_cases s medium r rs n risk hazard w false b e g again h = absurd (omega (arith, h))
 

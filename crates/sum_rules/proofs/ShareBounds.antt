@@ -14,18 +14,19 @@ use Rattle.decimal.specs.Lists.{added}
 use Rattle.decimal.specs.Range.{Range, operand_range, product_range, Covers}
 use Rattle.decimal.proofs.Ranges.{covers, covers_self}
 use Rattle.decimal.proofs.Laws.{mul_zero_left, mul_zero_right}
-use Rattle.decimal.proofs.Approximation.{Fair, Summands, approx_mul, fair_most, sum_fair, working_fair}
+use Rattle.decimal.proofs.Approximation.{Fair, Summands, approx_mul, fair_most, sum_fair}
 use Rattle.decimal.proofs.Approximation.Fair.{none, some}
 use Rattle.decimal.proofs.Approximation.Summands.{end, next as one_more}
 use Rattle.inputs.specs.declared.Scenario.{Scenario}
 use Rattle.inputs.specs.declared.Contaminant.{Contaminant}
 use Rattle.formulas.specs.Limits.{input_range, total_roundings, total_range, share_roundings, share_range, sum_roundings, sum_range}
-use Rattle.inputs.proofs.Tests.{valid_small, contaminant_parts}
+use Rattle.inputs.proofs.Tests.{contaminant_parts}
 use Rattle.formulas.specs.Side.{Side}
 use Rattle.formulas.specs.Term.{formulas_for}
 use Rattle.formulas.specs.ExactTerm.{exact_total, exact_for}
 use Rattle.formulas.proofs.Sound.{table_sound, three_pathways}
 use Rattle.formulas.proofs.TermBounds.{fair_bottom}
+use Rattle.formulas.proofs.ValueBounds.{valid_fair}
 use Rattle.guideline_rules.proofs.Accepted.{Accepted, values_of_lem}
 use Rattle.guideline_rules.proofs.WorkedOut.{total_bounds}
 use Rattle.sum_rules.specs.Share.{term_sum, used_of, share_of, exact_used, exact_share}
@@ -46,7 +47,7 @@ module _ (s : Scenario) (medium : ℕ) (side : Side) (dir : Direction) where
 
   pub concentration : (r : Contaminant) → Accepted s medium r → Fair dir 0 input_range (used_of r dir) (exact_used r)
   unfolding used_of exact_used
-  concentration r a = let k = valid_small r.c (contaminant_parts r a.contaminant).1 in working_fair dir r.c k.digits k.low k.high
+  concentration r a = valid_fair dir r.c (contaminant_parts r a.contaminant).1
 
   pub share_bounds : (r : Contaminant) → Accepted s medium r → Fair dir share_roundings share_range (share_of s medium r dir side) (exact_share s medium side r)
   unfolding share_of exact_share

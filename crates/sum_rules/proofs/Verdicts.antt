@@ -22,7 +22,7 @@ use Rattle.decimal.specs.Exponent.{raise}
 use Rattle.decimal.specs.Lists.{plus_all}
 use Rattle.decimal.specs.Range.{Range}
 use Rattle.decimal.proofs.Laws.{Operable, working_value}
-use Rattle.decimal.proofs.Approximation.{Fair, fair_operable, working_fair}
+use Rattle.decimal.proofs.Approximation.{Fair, fair_operable}
 use Rattle.decimal.proofs.Approximation.Fair.{none, some}
 use Rattle.outcome.specs.Outcome.{number_of}
 use Rattle.inputs.specs.declared.Scenario.{Scenario}
@@ -34,7 +34,7 @@ use Rattle.inputs.proofs.Tests.{Small, and_split, valid_small}
 use Rattle.formulas.specs.Side.{Side}
 use Rattle.formulas.proofs.TermBounds.{fair_bottom}
 use Rattle.formulas.specs.Target.{target_of, working_target}
-use Rattle.formulas.proofs.ValueBounds.{target_valid}
+use Rattle.formulas.proofs.ValueBounds.{target_valid, target_fair}
 use Rattle.sum_rules.specs.declared.Verdict.TheVariants.{Within as WithinV, Above, Undecided, NoPathway}
 use Rattle.sum_rules.specs.Share.{Running, run_sum, start, exact_used, exact_share, run_all}
 use Rattle.sum_rules.specs.Verdict.{verdict_number, verdict_of}
@@ -167,7 +167,7 @@ upper_zero (none e t b) h = ap value_of e ∙ zero-mul (10 ^ 3000)
 upper_zero (some f) h = absurd (omega (arith, f.top, h))
 
 -- the scenario of a list that has a record
-scenario_valid : (s : Scenario) (medium : ℕ) (rs : List Contaminant) → AllAccepted s medium rs → 1 ≤ length rs → all_valid (scenario_decimals s) ≡ true
+pub scenario_valid : (s : Scenario) (medium : ℕ) (rs : List Contaminant) → AllAccepted s medium rs → 1 ≤ length rs → all_valid (scenario_decimals s) ≡ true
 scenario_valid s medium [] nobody h = absurd (omega (arith, h))
 scenario_valid s medium (r ∷ rs) (also a as') h = a.scenario
 
@@ -195,14 +195,17 @@ module _ (s : Scenario) (medium : ℕ) (rs : List Contaminant) (h : number_of (s
   unfolding run
   any_is = run_any s medium side rs p.all start
 
+  known : all_valid (scenario_decimals s) ≡ true
+  known = scenario_valid s medium rs p.all p.some
+
   small : Small (target_of s side)
-  small = target_small s (scenario_valid s medium rs p.all p.some) side
+  small = target_small s known side
 
   target_given : given (target_of s side) ≡ given (working_target s side)
   target_given = given_same (target_of s side) (working_target s side) (sym (working_value (target_of s side) small.digits (omega (arith, small.low))))
 
   target_operable : Operable (working_target s side)
-  target_operable = fair_operable (working_fair Up (target_of s side) small.digits small.low small.high)
+  target_operable = fair_operable (target_fair Up s known side)
 
   -- DEMAND 3: the exact sum lies from the lower to the upper sum, and each differs from it by at most 2/1,000,000 of it
   pub sums_enclose : Enclosed (side_sent (sums_of s medium rs) side).lower (side_sent (sums_of s medium rs) side).upper (exact_sum s medium side rs)

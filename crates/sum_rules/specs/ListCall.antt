@@ -1,40 +1,19 @@
 -- The list call: the sums of both sides over a list of contaminants, or what is sent back.
-use Rattle.std.specs.Prelude.{Bool, cond, not, ◌&&◌, List, [], ◌∷◌, ◌++◌, ℕ, ◌+◌, leb, length, get_or, Result, Ok, ⊤}
-use Rattle.rounding.specs.declared.Direction.TheVariants.{Down, Up}
-use Rattle.decimal.specs.declared.Decimal.{Decimal}
+use Rattle.std.specs.Prelude.{cond, not, ◌&&◌, List, [], ◌∷◌, ℕ, ◌+◌, leb, length, Result, Ok, ⊤}
 use Rattle.outcome.specs.declared.Refusal.{Refusal}
 use Rattle.outcome.specs.declared.Refused.{Refused}
-use Rattle.outcome.specs.declared.Refusal.TheVariants.{Length, Field, Order, Range}
+use Rattle.outcome.specs.declared.Refusal.TheVariants.{Length, Field, Order}
 use Rattle.outcome.specs.Outcome.{refused, Test, test, refused_by, passing}
 use Rattle.inputs.specs.declared.Scenario.{Scenario}
 use Rattle.inputs.specs.declared.Contaminant.{Contaminant}
 use Rattle.inputs.specs.Rules.{scenario_tests, contaminant_fits, most_contaminants}
 use Rattle.formulas.specs.Side.{Side, Risk, Hazard}
 use Rattle.formulas.specs.Target.{working_target}
-use Rattle.formulas.specs.Formula.{none}
-use Rattle.formulas.specs.Term.{term_of, formulas_for, values_for}
 use Rattle.guideline_rules.specs.Pathway.{record_refusal}
-use Rattle.guideline_rules.specs.Guideline.{all_ranged, side_decimals}
 use Rattle.sum_rules.specs.declared.SideSums.{SideSums}
 use Rattle.sum_rules.specs.Answer.{Sums}
-use Rattle.sum_rules.specs.Share.{Running, start, next, term_sum, share_of}
+use Rattle.sum_rules.specs.Share.{Running, start, next}
 use Rattle.sum_rules.specs.Verdict.{verdict_of}
-
--- the lower terms of a side and their sum, the two shares, the two running sums
-abbrev pub sum_decimals : Scenario → ℕ → Side → Running → Contaminant → List Decimal
-sum_decimals s medium side t r =
-    term_of (values_for Down s r) Down (get_or (formulas_for s medium r side) 0 none) ∷
-    (term_of (values_for Down s r) Down (get_or (formulas_for s medium r side) 1 none) ∷
-    (term_of (values_for Down s r) Down (get_or (formulas_for s medium r side) 2 none) ∷
-    (term_sum s medium r Down side ∷ (share_of s medium r Down side ∷ (share_of s medium r Up side ∷
-    ((next s medium side t r).lower ∷ ((next s medium side t r).upper ∷ [])))))))
-
--- 9: the decimals of a block on a side: the upper terms, their sum and the guidelines, and those of the sums
-abbrev pub block_decimals : Scenario → ℕ → Side → Running → Contaminant → List Decimal
-block_decimals s medium side t r = side_decimals (values_for Up s r) (working_target s side) (formulas_for s medium r side) ++ sum_decimals s medium side t r
-
-abbrev pub block_ranged : Scenario → ℕ → Running → Running → Contaminant → Bool
-block_ranged s medium risk hazard r = all_ranged (block_decimals s medium Risk risk r) && all_ranged (block_decimals s medium Hazard hazard r)
 
 -- ---- what comes back
 abbrev pub side_sums : Scenario → Side → Running → SideSums
@@ -50,17 +29,13 @@ first_tests s medium n = test Length (not (leb 1 n && leb n most_contaminants)) 
 unfoldable pub first_refusal : Scenario → ℕ → ℕ → Result ⊤ Refusal
 first_refusal s medium n = refused_by (first_tests s medium n)
 
--- ---- record by record, the n-th counting as block n: 4, 7, then
--- the tests of a record and 9, or `again`, the answer with this record taken in
-unfoldable pub taken_in : Scenario → ℕ → ℕ → Running → Running → Contaminant → Result Sums Refused → Result Sums Refused
-taken_in s medium n risk hazard r again = passing (record_refusal s medium r) n (cond (block_ranged s medium risk hazard r) again (refused Range n))
-
+-- ---- record by record, the n-th counting as block n: 4, 7, then the tests of a record, or the answer with this record taken in
 unfoldable pub walk : Scenario → ℕ → List Contaminant → ℕ → ℕ → Running → Running → Result Sums Refused
 walk s medium [] n before risk hazard = accepted s risk hazard
 walk s medium (r ∷ rs) n before risk hazard =
     cond (contaminant_fits r)
     (cond (leb r.id before) (refused Order n)
-    (taken_in s medium n risk hazard r (walk s medium rs (n + 1) r.id (next s medium Risk risk r) (next s medium Hazard hazard r))))
+    (passing (record_refusal s medium r) n (walk s medium rs (n + 1) r.id (next s medium Risk risk r) (next s medium Hazard hazard r))))
     (refused Field n)
 
 -- in block 0 the tests before the first record, then the records

@@ -1,4 +1,3 @@
-pub mod SameWalk
 pub mod States
 pub mod Comparisons
 pub mod NextSums

@@ -1,5 +1,5 @@
 -- The first state of the list call gives the answer of the whole list. Assumes nothing.
-use Rattle.std.proofs.Common.{◌≡◌, ℕ, ◌≤◌, List, length, refl, sym, ap, ◌∙◌, arith}
+use Rattle.std.proofs.Common.{◌≡◌, ℕ, ◌≤◌, List, length, refl, ap, ◌∙◌, arith}
 use Rattle.std.specs.Prelude.{false, leb, Ok, Err}
 use lib.Dec.{lit≤}
 use borrow.Author.Tests.{leb-true}
@@ -16,8 +16,6 @@ use Rattle.sum_rules.specs.ListCall.{first_refusal, walk, sums_of}
 use Rattle.shares.specs.Plan.{Planned}
 use Rattle.sums.specs.State.{answer_from, Room, Good, first_of}
 use Rattle.sum_rules.proofs.Runs.{FirstPassed, first_passed}
-use Rattle.sum_rules.proofs.InRange.{fair_start}
-use Rattle.sums.proofs.SameWalk.{walk_steps}
 use Rattle.sums.proofs.States.{none_ready}
 
 -- a list that is refused before its first record
@@ -44,6 +42,5 @@ module _ {s : Scenario} {medium : ℕ} (n : ℕ) {p : Plan} (h : Planned s mediu
   pub started_answer : (rs : List Contaminant) → length rs ≡ n → answer_from p first_of rs ≡ sums_of s medium rs
   unfolding answer_from sums_of
   started_answer rs e =
-      let t = tests.scenario in
       let q : first_refusal s medium (length rs) ≡ Ok tt = ap (first_refusal s medium) e ∙ z in
-      rw (h.scenario, h.media, q) (sym (walk_steps s medium t.fits t.factors rs 1 0 {k = 0} (omega (arith, most_records, e)) fair_start fair_start))
+      rw (h.scenario, h.media, q)

@@ -18,7 +18,8 @@ use Rattle.sums.specs.declared.State.{State}
 use Rattle.factors.specs.Widths.{share_width}
 use Rattle.guideline_rules.specs.Pathway.{record_refusal}
 use Rattle.shares.specs.Plan.{no_runs}
-use Rattle.sums.specs.State.{steps, answer_from, RunsReady, Good, Moved, Stopped}
+use Rattle.sum_rules.specs.ListCall.{walk}
+use Rattle.sums.specs.State.{answer_from, RunsReady, Good, Moved, Stopped}
 
 -- ---- sums of nothing
 pub none_ready : RunsReady (share_width + 1) no_runs
@@ -34,14 +35,14 @@ stays_full g l = record { good = g; same = λ rs h. absurd (omega (arith, h.room
 -- ---- a record that is refused in its own block: 4, 7, and its own tests
 module _ {p : Plan} {t : State} {r : Contaminant} {e : Refused} where
   pub stopped_field : contaminant_fits r ≡ false → e ≡ concerning Field t.place → Stopped p t r e
-  unfolding answer_from steps
+  unfolding answer_from walk
   stopped_field h k = record { same = λ rs. rw (h, k) refl }
 
   pub stopped_order : contaminant_fits r ≡ true → leb r.id t.previous ≡ true → e ≡ concerning Order t.place → Stopped p t r e
-  unfolding answer_from steps
+  unfolding answer_from walk
   stopped_order h k q = record { same = λ rs. rw (h, k, q) refl }
 
   pub stopped_record : contaminant_fits r ≡ true → leb r.id t.previous ≡ false → {y : Result ⊤ Refusal} → y ≡ record_refusal p.scenario p.medium r →
       located y t.place ≡ Err e → Stopped p t r e
-  unfolding answer_from steps
+  unfolding answer_from walk
   stopped_record h k q l = record { same = λ rs. rw (h, k) (tests_refused q t.place _ l) }

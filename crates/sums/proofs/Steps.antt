@@ -26,7 +26,8 @@ use Rattle.shares.specs.Runs.{Runs}
 use Rattle.sums.specs.declared.State.{State}
 use Rattle.shares.specs.Plan.{Workable, WorkedFor, RunSize, Addable, Added}
 use Rattle.shares.proofs.Plans.{inputs_of_lem}
-use Rattle.sums.specs.State.{steps, answer_from, SideReady, RunsReady, Moved, Advancing, NextRuns}
+use Rattle.sum_rules.specs.ListCall.{walk}
+use Rattle.sums.specs.State.{answer_from, SideReady, RunsReady, Moved, Advancing, NextRuns}
 use Rattle.sums.proofs.NextSums.{SideTerms, next_ready, next_is}
 
 -- the sum of a side's upper terms
@@ -101,7 +102,7 @@ module _ {p : Plan} {t : State} {r : Contaminant} (h : Advancing p t r) (z : rec
   after = record { place = t.place + 1; previous = r.id; runs = y }
 
   same_answer : (rs : List Contaminant) → answer_from p t (r ∷ rs) ≡ answer_from p after rs
-  unfolding answer_from steps
+  unfolding answer_from walk
   same_answer rs = rw (h.fits, h.rising, z, n.risk, n.hazard) refl
 
   pub moved_steps : Moved p t r after

@@ -1,18 +1,15 @@
 -- The state of the list call between two records, what it means, and what the functions over it promise.
-use Rattle.std.specs.Prelude.{◌≡◌, true, false, cond, List, [], ◌∷◌, ℕ, ◌+◌, ◌≤◌, leb, length, Result, Err, MatchResult}
+use Rattle.std.specs.Prelude.{◌≡◌, true, false, List, ◌∷◌, ℕ, ◌+◌, ◌≤◌, leb, length, Result, Err, MatchResult}
 use Rattle.rounding.specs.declared.Number.{Number}
 use Rattle.decimal.specs.declared.Decimal.{Decimal}
 use Rattle.decimal.specs.Decimal.{decimal_of}
 use Rattle.outcome.specs.declared.Refused.{Refused}
-use Rattle.outcome.specs.declared.Refusal.TheVariants.{Field, Order}
-use Rattle.outcome.specs.Outcome.{refused, passing}
 use Rattle.inputs.specs.declared.Scenario.{Scenario}
 use Rattle.inputs.specs.declared.Contaminant.{Contaminant}
 use Rattle.inputs.specs.Rules.{contaminant_fits, most_contaminants, lacks_factor}
 use Rattle.factors.specs.Widths.{share_width, sum_width}
 use Rattle.formulas.specs.Side.{Risk, Hazard}
 use Rattle.formulas.specs.Target.{working_target}
-use Rattle.guideline_rules.specs.Pathway.{record_refusal}
 use Rattle.factors.specs.Stands.{Stands}
 use Rattle.shares.specs.declared.plan.Plan.{Plan}
 use Rattle.shares.specs.declared.SideRun.{SideRun}
@@ -21,22 +18,13 @@ use Rattle.sums.specs.declared.State.{State}
 use Rattle.sum_rules.specs.declared.SideSums.{SideSums}
 use Rattle.sum_rules.specs.Answer.{Sums}
 use Rattle.sum_rules.specs.Verdict.{verdict_of}
-use Rattle.sum_rules.specs.Share.{Running, next}
-use Rattle.sum_rules.specs.ListCall.{accepted}
+use Rattle.sum_rules.specs.Share.{next}
+use Rattle.sum_rules.specs.ListCall.{walk}
 use Rattle.shares.specs.Plan.{no_runs, running_of}
-
--- the records one by one without condition 9, which cannot hold (proofs/InRange.antt)
-unfoldable pub steps : Scenario → ℕ → List Contaminant → ℕ → ℕ → Running → Running → Result Sums Refused
-steps s medium [] n before risk hazard = accepted s risk hazard
-steps s medium (r ∷ rs) n before risk hazard =
-    cond (contaminant_fits r)
-    (cond (leb r.id before) (refused Order n)
-    (passing (record_refusal s medium r) n (steps s medium rs (n + 1) r.id (next s medium Risk risk r) (next s medium Hazard hazard r))))
-    (refused Field n)
 
 -- the answer from this state with the rest of the records
 unfoldable pub answer_from : Plan → State → List Contaminant → Result Sums Refused
-answer_from p t rs = steps p.scenario p.medium rs t.place t.previous (running_of t.runs.risk) (running_of t.runs.hazard)
+answer_from p t rs = walk p.scenario p.medium rs t.place t.previous (running_of t.runs.risk) (running_of t.runs.hazard)
 
 -- the places of the rest end at 120
 pub record Room (t : State) (rs : List Contaminant) : Type 0 where

@@ -46,4 +46,4 @@ unfolding guideline_of
 returns c =
     let z = tests_passed c.scenario_refusal.ensures 0 (sym c.in_ok-located.ensures) in
     let k = tests_passed c.record_refusal.ensures 1 (sym c.in_ok-located-2.ensures) in
-    rw (z, sym c.contaminant_fits.ensures ∙ c.if-not-contaminant_fits.false, k) c.worked_out.ensures
+    rw (z, sym c.contaminant_fits.ensures ∙ c.if-not-contaminant_fits.false, k, c.worked_out.ensures)

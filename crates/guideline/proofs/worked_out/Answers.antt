@@ -1,6 +1,5 @@
--- `guideline::worked_out`: the terms and the columns stand for those of the definitions, and are always in range.
-use Rattle.std.proofs.Common.{◌≡◌, ℕ, sym, ◌∙◌}
-use mathlib.Core.Bool.{false≢true}
+-- `guideline::worked_out`: the terms and the columns stand for those of the definitions.
+use Rattle.std.proofs.Common.{◌≡◌, ℕ}
 use Rattle.rounding.specs.declared.Direction.TheVariants.{Up}
 use Rattle.inputs.specs.declared.Scenario.{Scenario}
 use Rattle.inputs.specs.declared.Contaminant.{Contaminant}
@@ -17,7 +16,7 @@ use Rattle.guideline_rules.proofs.Accepted.{Accepted}
 use Rattle.guideline.specs.declared.Column.{Column}
 use Rattle.guideline.specs.Column.{ColumnFor}
 use Rattle.guideline.proofs.ColumnBounds.{column_printable}
-use Rattle.guideline.proofs.Steps.{TermsOf, ColumnsOf, wide, risk_column, hazard_column, in_range_lem, accepted_out}
+use Rattle.guideline.proofs.Steps.{TermsOf, ColumnsOf, wide, risk_column, hazard_column, both_are}
 use Rattle.guideline.proofs.worked_out.Goals as goal
 
 -- ---- what the code has worked out: the kinds, the terms, then the columns
@@ -58,27 +57,18 @@ decimals-requires c =
     c.scenario_numbers-f.ensures c.prepare-p.ensures c.contaminant_numbers-t.ensures c.terms_of-side.ensures
     c.columns_of-columns.ensures))
 
-pub decimals-requires-then-column_ranged : goal.decimals-requires-then-column_ranged
-decimals-requires-then-column_ranged c =
+pub decimals-requires-2 : goal.decimals-requires-2
+decimals-requires-2 c =
     column_printable
     (hazard_column
     (columns_filled c.of-medium.ensures c.of-class.ensures c.requires
     c.scenario_numbers-f.ensures c.prepare-p.ensures c.contaminant_numbers-t.ensures c.terms_of-side.ensures
     c.columns_of-columns.ensures))
 
-pub returns-then-column_ranged : goal.returns-then-column_ranged
-returns-then-column_ranged c =
-    rw (c.decimals.ensures, c.decimals-then-column_ranged.ensures)
-    (sym
-    (accepted_out
-    (columns_filled c.of-medium.ensures c.of-class.ensures c.requires
-    c.scenario_numbers-f.ensures c.prepare-p.ensures c.contaminant_numbers-t.ensures c.terms_of-side.ensures
-    c.columns_of-columns.ensures)))
-
 pub returns : goal.returns
 returns c =
-    let good = in_range_lem
+    rw (c.decimals.ensures, c.decimals-2.ensures)
+    (both_are
     (columns_filled c.of-medium.ensures c.of-class.ensures c.requires
     c.scenario_numbers-f.ensures c.prepare-p.ensures c.contaminant_numbers-t.ensures c.terms_of-side.ensures
-    c.columns_of-columns.ensures) in
-    absurd (false≢true (sym c.if-column_ranged.false ∙ rw (c.column_ranged.ensures, c.column_ranged-2.ensures) good))
+    c.columns_of-columns.ensures))

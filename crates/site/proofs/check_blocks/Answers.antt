@@ -6,7 +6,7 @@ use Rattle.outcome.specs.Outcome.{located}
 use Rattle.outcome.proofs.Tests.{handed_back, tests_passed, reader_value}
 use Rattle.inputs.specs.declared.Contaminant.{Contaminant}
 use Rattle.site_rules.specs.Blocks.{block_at}
-use Rattle.site.specs.Check.{check_blocks}
+use Rattle.site_rules.proofs.Walk.{check_blocks}
 use Rattle.site_rules.proofs.Opened.{found_record}
 use Rattle.site.proofs.Turns.{turn_refused, turn_record, turn_next, check_none}
 use Rattle.site.proofs.check_blocks.Goals as goal

@@ -1,6 +1,6 @@
 -- `site::check_blocks`: what is found from this place on is what is found from the first.
 use Rattle.std.proofs.Common.{◌≡◌, ◌+◌, ◌-◌}
-use Rattle.site.specs.Check.{check_blocks}
+use Rattle.site_rules.proofs.Walk.{check_blocks}
 use Rattle.site.proofs.check_blocks.Given as goal
 
 abbrev pub invariant-loop-k : goal.invariant-loop-k
