@@ -41,6 +41,12 @@ operand_at (d ∷ ds) h (suc n) = operand_at ds ((and-eq-true_iff (operand d) (a
 pub operand_among : (d : Decimal) (ds : List Decimal) → all_operands ds ≡ true → Contains ds d → is_operand (biased_of d) ≡ true
 operand_among d ds h at = subst (λ (x : Decimal). operand x ≡ true) at.2 (AllPass-from_list_all operand ds h at.0 d at.1)
 
+-- all of them, where every place has one
+pub operands_all : (ds : List Decimal) → ((n : ℕ) → is_operand (biased_of (get_or ds n zero_of)) ≡ true) → all_operands ds ≡ true
+operands_all [] h = refl
+operands_all (d ∷ ds) h = rw (h 0) (operands_all ds (λ n. h (suc n)))
+
+-- ---- what a list holds
 -- what one of several calculations works out is among what all of them do
 pub flat_contains : {A : Type 0} (f : A → List Decimal) (xs : List A) (x : A) (d : Decimal) → Contains xs x → Contains (f x) d → Contains (flat_map f xs) d
 flat_contains f [] x d at h = absurd (omega (arith, at.1))
@@ -53,11 +59,6 @@ summed_contains dir a [] = (0, lit< tt, refl)
 summed_contains dir a (b ∷ bs) =
     let c = cond (eqb b.m 0) a (add_of a b dir) in
     Contains-append_right (a ∷ []) (summed_steps dir c bs) (summed dir c bs) (summed_contains dir c bs)
-
--- all of them, where every place has one
-pub operands_all : (ds : List Decimal) → ((n : ℕ) → is_operand (biased_of (get_or ds n zero_of)) ≡ true) → all_operands ds ≡ true
-operands_all [] h = refl
-operands_all (d ∷ ds) h = rw (h 0) (operands_all ds (λ n. h (suc n)))
 
 -- ---- a decimal that is zero or has nine digits, and what is made of two of them
 pub value_operand : {w : Range} {d : Decimal} → Value w d → is_operand (biased_of d) ≡ true

@@ -4,10 +4,9 @@ use mathlib.Core.List.{List}
 use Prim.Native.Nat.{ℕ, ◌≤◌}
 use native.Mathlib.Omega.{arith}
 use lib.Dec.{ltb}
-use Rattle.std.specs.Prelude.{Result, Ok, Err, ⊤}
-use Rattle.outcome.specs.declared.Refusal.{Refusal}
+use Rattle.std.specs.Prelude.{Result, Ok, Err}
 use Rattle.outcome.specs.declared.Refused.{Refused}
-use Rattle.outcome.specs.Outcome.{number_of, block_of, refused, passing}
+use Rattle.outcome.specs.Outcome.{number_of, block_of, refused}
 use Rattle.outcome.specs.declared.Refusal.TheVariants.{Field, Room}
 use Rattle.inputs.specs.declared.Scenario.{Scenario}
 use Rattle.inputs.specs.declared.Contaminant.{Contaminant}
@@ -18,6 +17,7 @@ use Rattle.guideline_rules.specs.Pathway.{record_refusal}
 use Rattle.guideline_rules.specs.Guideline.{both_sides, guideline_of}
 use Rattle.sum_rules.specs.Promise.{side_sent}
 use Rattle.outcome.proofs.Numbers.{number_most}
+use Rattle.outcome.proofs.Tests.{passing_block}
 use Rattle.site_rules.specs.Site.{site_answer}
 use Rattle.site_rules.proofs.AnswerBounds.{answer_bounded}
 use Rattle.gv_rules.specs.Exports.{word_of, packed, Unpacked, header_from, contaminant_from, with_room, guideline_sent, guideline_word}
@@ -42,16 +42,12 @@ either_block : (t : Bool) (x y : Result Guidelines Refused) → block_of x ≤ 1
 either_block true x y h k = h
 either_block false x y h k = k
 
-behind_block : (x : Result ⊤ Refusal) (k : ℕ) (a : Result Guidelines Refused) → k ≤ 1 → block_of a ≤ 1 → block_of (passing x k a) ≤ 1
-behind_block (Ok u) k a l h = h
-behind_block (Err n) k a l h = l
-
 guideline_block : (s : Scenario) (medium : ℕ) (r : Contaminant) → block_of (guideline_of s medium r) ≤ 1
 unfolding guideline_of
 guideline_block s medium r =
-    behind_block (scenario_refusal s medium) 0 _ (omega arith)
+    passing_block (scenario_refusal s medium) 0 _ (omega arith)
     (either_block (contaminant_fits r) _ (refused Field 1)
-    (behind_block (record_refusal s medium r) 1 (Ok (both_sides s medium r)) (omega arith) (omega arith)) (omega arith))
+    (passing_block (record_refusal s medium r) 1 (Ok (both_sides s medium r)) (omega arith) (omega arith)) (omega arith))
 
 room_block : (room : ℕ) (a : Result Guidelines Refused) → block_of a ≤ 1 → block_of (with_room room a) ≤ 1
 room_block room (Ok g) h = either_block (ltb room 64) (refused Room 0) (Ok g) (omega arith) h

@@ -8,11 +8,12 @@ use lib.Dec.{ltb}
 use lib.ListN.{length}
 use Rattle.outcome.specs.declared.Refusal.{Refusal}
 use Rattle.outcome.specs.declared.Refusal.TheVariants.{Room}
-use Rattle.std.specs.Prelude.{Result, Ok, Err, ⊤}
-use Rattle.std.specs.Result.{result_and}
+use Rattle.std.specs.Prelude.{Result, Ok, Err}
 use Rattle.outcome.specs.declared.Refused.{Refused}
-use Rattle.outcome.specs.Outcome.{located, on_read, block_of, refused, passing}
+use Rattle.outcome.specs.Outcome.{located, on_read, block_of, refused}
 use Rattle.outcome.proofs.Numbers.{number_most}
+use Rattle.outcome.proofs.Tests.{and_block, passing_block}
+use Rattle.inputs.specs.Rules.{most_contaminants}
 use Rattle.inputs.specs.declared.Scenario.{Scenario}
 use Rattle.inputs.specs.declared.Contaminant.{Contaminant}
 use Rattle.block_rules.specs.declared.Header.{Header}
@@ -32,14 +33,12 @@ use Rattle.site_rules.proofs.Opened.{count_most, answer_length, answer_header, a
 
 -- ---- the block of what is found in n blocks, the first at place k
 module _ (s : Scenario) (medium : ℕ) (site : List ℕ) where
-  by_tests : (n k : ℕ) (c : Result ⊤ Refused) → block_of c < k + 1 + n → (x : Result ⊤ Refusal) → block_of (passing x k c) < k + suc n
-  by_tests n k c again (Ok u) = omega (arith, again)
-  by_tests n k c again (Err m) = omega arith
-
   by_read : (n k : ℕ) → ((id : ℕ) → block_of (check_blocks s medium site n (k + 1) id) < k + 1 + n) → (x : Result Contaminant Refusal) →
       block_of (on_read x (λ (m : Refusal). refused m k) (check_found s medium site n k)) < k + suc n
   by_read n k again (Err m) = omega arith
-  by_read n k again (Ok r) = by_tests n k (check_blocks s medium site n (k + 1) r.id) (again r.id) (record_refusal s medium r)
+  by_read n k again (Ok r) =
+      let b = passing_block (record_refusal s medium r) k (check_blocks s medium site n (k + 1) r.id) {m = k + n} (omega arith) (omega (arith, again r.id)) in
+      omega (arith, b)
 
   check_block : (n k before : ℕ) → 1 ≤ k → block_of (check_blocks s medium site n k before) < k + n
   unfolding check_blocks
@@ -48,7 +47,7 @@ module _ (s : Scenario) (medium : ℕ) (site : List ℕ) where
 
 -- ---- the whole site
 abbrev Small : {A : Type 0} → Result A Refused → Type 0
-Small a = block_of a < 121
+Small a = block_of a ≤ most_contaminants
 
 room_small : (site out : ℕ) (a : Result Sums Refused) → Small a → Small (with_room site out a)
 unfolding with_room
@@ -58,10 +57,6 @@ room_small site out (Ok a) h = cases (ltb out site)
     cases true = omega arith
     cases false = h
 room_small site out (Err r) h = h
-
-found_small : (c : Result ⊤ Refused) (a : Result Sums Refused) → Small c → Small a → Small (result_and c a)
-found_small (Ok u) a h k = k
-found_small (Err r) a h k = h
 
 -- a verdict that is sent back
 verdict_sent : (a : Result Sums Refused) (side : Side) → (side_sent a side).verdict ≤ 4
@@ -73,7 +68,7 @@ module _ (site : List ℕ) (out : ℕ) where
   opened_small h o =
       let b = check_block h.scenario h.medium site h.count 1 0 (omega arith) in
       subst (Small {A = Sums}) (sym (answer_walked o out))
-      (room_small (length site) out _ (found_small (checked_from site h) (sums_from site h) (omega (arith, b, count_most o)) (omega arith)))
+      (room_small (length site) out _ (and_block (checked_from site h) (sums_from site h) (omega (arith, b, count_most o)) (omega arith)))
 
   by_header : length_ok (length site) ≡ true → (x : Result Header Refusal) → header_read (block_at site 0) (length site / 512) ≡ x → Small (site_answer site out)
   by_header r (Err m) e = subst (Small {A = Sums}) (sym (answer_header site out r (ap (λ (x : Result Header Refusal). located x 0) e))) (omega arith)
@@ -86,7 +81,7 @@ module _ (site : List ℕ) (out : ℕ) where
   pub answer_bounded : Bounded (site_answer site out)
   answer_bounded = record {
     number = number_most (site_answer site out);
-    block = omega (arith, by_length (length_ok (length site)) refl);
+    block = by_length (length_ok (length site)) refl;
     risk = verdict_sent (site_answer site out) Risk;
     hazard = verdict_sent (site_answer site out) Hazard;
   }

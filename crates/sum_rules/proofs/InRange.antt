@@ -9,6 +9,7 @@ use lib.Dec.{lit≤}
 use lib.ListN.{length}
 use Rattle.rounding.specs.declared.Direction.{Direction}
 use Rattle.rounding.specs.declared.Direction.TheVariants.{Down, Up}
+use Rattle.decimal.specs.declared.Decimal.{Decimal}
 use Rattle.decimal.specs.Range.{added_range}
 use Rattle.decimal.specs.Decimal.{all_operands}
 use Rattle.std.specs.List.{flat_map}
@@ -33,6 +34,12 @@ use Rattle.sum_rules.proofs.Runs.{next_sum, AcceptedList, accepted_list}
 use Rattle.sum_rules.proofs.Verdicts.{scenario_valid}
 use Rattle.formulas.proofs.ValueBounds.{target_fair}
 
+-- what is worked out for each record of an accepted list
+pub accepted_operands : (s : Scenario) (medium : ℕ) (f : Contaminant → List Decimal) → ((r : Contaminant) → Accepted s medium r → all_operands (f r) ≡ true) →
+    (rs : List Contaminant) → AllAccepted s medium rs → all_operands (flat_map f rs) ≡ true
+accepted_operands s medium f h [] nobody = refl
+accepted_operands s medium f h (r ∷ rs) (also a as') = operands_append (f r) (flat_map f rs) (h r a) (accepted_operands s medium f h rs as')
+
 module _ (dir : Direction) (s : Scenario) (medium : ℕ) (side : Side) where
   -- ---- one record
   share_value : (r : Contaminant) → Accepted s medium r → Value share_range (share_of s medium r dir side)
@@ -42,11 +49,6 @@ module _ (dir : Direction) (s : Scenario) (medium : ℕ) (side : Side) where
   share_in_range r a =
       operands_append (steps_for dir s medium r side) (used_of r dir ∷ share_of s medium r dir side ∷ []) (terms_in_range s medium r a dir side)
       (rw (value_operand (fair_value (concentration s medium side dir r a)), value_operand (share_value r a)))
-
-  shares_in_range : (rs : List Contaminant) → AllAccepted s medium rs → all_operands (flat_map (share_steps dir s medium side) rs) ≡ true
-  shares_in_range [] nobody = refl
-  shares_in_range (r ∷ rs) (also a as') =
-      operands_append (share_steps dir s medium side r) (flat_map (share_steps dir s medium side) rs) (share_in_range r a) (shares_in_range rs as')
 
   -- ---- the running sums: after n records an addition more each
   next_value : (n : ℕ) (t : Running) (r : Contaminant) → Accepted s medium r → n + 1 ≤ most_contaminants → Value (added_range n share_range) (run_sum dir t) →
@@ -77,5 +79,6 @@ module _ (s : Scenario) (medium : ℕ) (rs : List Contaminant) (z : number_of (s
   unfolding list_steps
   list_in_range dir side =
       rw (value_operand (fair_value (target_fair Up s (scenario_valid s medium rs list.all list.some) side)))
-      (operands_append (flat_map (share_steps dir s medium side) rs) (run_steps dir s medium side start rs) (shares_in_range dir s medium side rs list.all)
+      (operands_append (flat_map (share_steps dir s medium side) rs) (run_steps dir s medium side start rs)
+      (accepted_operands s medium (share_steps dir s medium side) (share_in_range dir s medium side) rs list.all)
       (run_in_range dir s medium side rs list.all 0 start (omega (arith, list.most)) (start_value dir)))
