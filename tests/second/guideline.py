@@ -3,11 +3,12 @@ from typing import NamedTuple
 
 from .decimals import DOWN, UP, ZERO, keeps_input_rule
 from .steps import divide, working_form
-from .terms import CONTAMINANT_VALUES, HAZARD, RISK, SCENARIO_FACTORS, SIDES, has_pathway, inputs_of, term_sum, terms_of
+from .terms import (CHEMICAL, CONTAMINANT_VALUES, HAZARD, RADIONUCLIDE, RISK, SCENARIO_FACTORS, SIDES, SOIL, TRITIUM, has_pathway,
+                    inputs_of, term_sum, terms_of)
 
 # Refusals, by the specification's numbers; 9 is not used.
 ACCEPTED, LENGTH, CHECK, KIND, FIELD, COUNT, FACTOR, ORDER, PATHWAY = range(9)
-ROOM = 10
+ROOM, SCENARIO, HOUSE = range(10, 13)
 REQUIRED_FACTORS = ("EF", "ED", "BW", "AT", "TR", "THI")
 TARGET = {RISK: "TR", HAZARD: "THI"}
 
@@ -35,11 +36,31 @@ def scenario_refusal(scenario, medium):
 def keeps_record_rule(record):
     """Refusal 4 of a record: every value is checked, the unneeded ones too."""
     values = all(keeps_input_rule(record[name]) for name in CONTAMINANT_VALUES)
-    return record["class"] in (1, 2) and record["id"] != 0 and values
+    return record["class"] in (CHEMICAL, RADIONUCLIDE, TRITIUM) and record["id"] != 0 and values
 
 
 def has_any_pathway(medium, record, inputs):
     return any(has_pathway(medium, record["class"], side, inputs) for side in SIDES)
+
+
+def lacks_house(scenario, medium, record):
+    """Refusal 12 of a record alone: tritium where L or W is zero or the site is soil."""
+    return record["class"] == TRITIUM and (scenario["L"].m == 0 or scenario["W"].m == 0 or medium == SOIL)
+
+
+def is_mixed(record, earlier):
+    """Refusal 12 in a list: the later one, when a chemical and tritium stand in it, whatever stands between them."""
+    other = {CHEMICAL: TRITIUM, TRITIUM: CHEMICAL}.get(record["class"])
+    return any(one["class"] == other for one in earlier)
+
+
+def last_refusal(scenario, medium, record, earlier):
+    """The tests of a record that come last, after 4 and 7: 12, then 8; 0 when neither holds."""
+    if lacks_house(scenario, medium, record) or is_mixed(record, earlier):
+        return HOUSE
+    if not has_any_pathway(medium, record, inputs_of(scenario, record)):
+        return PATHWAY
+    return ACCEPTED
 
 
 def side_guidelines(target, terms):
@@ -54,9 +75,10 @@ def guideline(scenario, medium, record):
         return refused(number, 0)
     if not keeps_record_rule(record):
         return refused(FIELD, 1)
+    number = last_refusal(scenario, medium, record, [])
+    if number != ACCEPTED:
+        return refused(number, 1)
     inputs = inputs_of(scenario, record)
-    if not has_any_pathway(medium, record, inputs):
-        return refused(PATHWAY, 1)
     guidelines = []
     for side in SIDES:
         guidelines += side_guidelines(scenario[TARGET[side]], terms_of(medium, record["class"], side, inputs, UP))

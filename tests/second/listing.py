@@ -16,7 +16,7 @@ def printed(d):
 
 
 def contaminant_lines(result):
-    """The lines of one result block: id, side, three pathways, total. A radionuclide has its risk line only."""
+    """The lines of one result block: id, side, three pathways, total. Only a chemical has a hazard line."""
     sides = SIDES if word(result, 8) == CHEMICAL else SIDES[:1]
     for number, side in enumerate(sides):
         guidelines = [field_of(result, 4 * number + pathway) for pathway in range(4)]

@@ -4,7 +4,7 @@ from typing import NamedTuple
 
 from .blocks import BLOCK, contaminant_conditions, first, header_conditions, header_of, record_of, result_block, summary_block
 from .decimals import ZERO
-from .guideline import ACCEPTED, LENGTH, ORDER, PATHWAY, ROOM, guideline
+from .guideline import ACCEPTED, HOUSE, LENGTH, ORDER, PATHWAY, ROOM, guideline
 from .sums import accepted, add_record, empty_sums, record_refusal
 
 SHORTEST, LONGEST = 1024, 61_952
@@ -27,11 +27,12 @@ def has_length(given):
     return SHORTEST <= len(given) <= LONGEST and len(given) % BLOCK == 0
 
 
-def later_conditions(block, place, scenario, medium, previous_id):
-    """Refusals 2, 3, 4, 7, 8 of a block after the header."""
+def later_conditions(block, place, scenario, medium, earlier):
+    """Refusals 2, 3, 4, 7, 12, 8 of a block after the header."""
     yield from contaminant_conditions(block, place)
-    number = record_refusal(scenario, medium, record_of(block), previous_id)
+    number = record_refusal(scenario, medium, record_of(block), earlier)
     yield ORDER, number == ORDER
+    yield HOUSE, number == HOUSE
     yield PATHWAY, number == PATHWAY
 
 
@@ -45,7 +46,7 @@ def written(scenario, medium, records, total):
 def site(given, out):
     """The call over the bytes of a site, with these bytes lent for the output.
 
-    Order: 1; the header 2 to 6; each later block 2, 3, 4, 7, 8; last 10.
+    Order: 1; the header 2 to 6; each later block 2, 3, 4, 7, 12, 8; last 10.
     """
     if not has_length(given):
         return refused(LENGTH, 0, out)
@@ -54,14 +55,13 @@ def site(given, out):
     if number != ACCEPTED:
         return refused(number, 0, out)
     medium, _, scenario = header_of(blocks[0])
-    records, running, previous_id = [], empty_sums(), None
+    records, running = [], empty_sums()
     for place, block in enumerate(blocks[1:], 1):
-        number = first(later_conditions(block, place, scenario, medium, previous_id))
+        number = first(later_conditions(block, place, scenario, medium, records))
         if number != ACCEPTED:
             return refused(number, place, out)
         records.append(record_of(block))
         add_record(scenario, medium, records[-1], running)
-        previous_id = records[-1]["id"]
     if len(out) < len(given):
         return refused(ROOM, 0, out)
     total = accepted(scenario, medium, records, running)

@@ -2,7 +2,7 @@
 from typing import NamedTuple
 
 from .decimals import DOWN, UP, ZERO, value
-from .guideline import ACCEPTED, FIELD, LENGTH, ORDER, PATHWAY, TARGET, has_any_pathway, keeps_record_rule, scenario_refusal
+from .guideline import ACCEPTED, FIELD, LENGTH, ORDER, TARGET, keeps_record_rule, last_refusal, scenario_refusal
 from .steps import add, multiply, working_form
 from .terms import SIDES, has_pathway, inputs_of, term_sum, terms_of
 
@@ -31,15 +31,13 @@ def verdict(no_pathway, lower, upper, target):
     return UNDECIDED
 
 
-def record_refusal(scenario, medium, record, previous_id):
-    """4, 7 or 8 of a record; 0 when none holds. The first record has none before it."""
+def record_refusal(scenario, medium, record, earlier):
+    """4, 7, 12 or 8 of a record after the earlier ones of its list; 0 when none holds."""
     if not keeps_record_rule(record):
         return FIELD
-    if previous_id is not None and record["id"] <= previous_id:
+    if earlier and record["id"] <= earlier[-1]["id"]:
         return ORDER
-    if not has_any_pathway(medium, record, inputs_of(scenario, record)):
-        return PATHWAY
-    return ACCEPTED
+    return last_refusal(scenario, medium, record, earlier)
 
 
 def add_record(scenario, medium, record, running):
@@ -74,12 +72,10 @@ def sums(scenario, medium, records):
     if number != ACCEPTED:
         return refused(number, 0)
     running = empty_sums()
-    previous_id = None
     # The n-th record counts as block n.
     for block, record in enumerate(records, 1):
-        number = record_refusal(scenario, medium, record, previous_id)
+        number = record_refusal(scenario, medium, record, records[:block - 1])
         if number != ACCEPTED:
             return refused(number, block)
         add_record(scenario, medium, record, running)
-        previous_id = record["id"]
     return accepted(scenario, medium, records, running)

@@ -5,19 +5,28 @@ from .decimals import OPPOSITE, ZERO, Decimal, value
 from .steps import add, divide, multiply, working_form
 
 SOIL, WATER = 1, 2
-CHEMICAL, RADIONUCLIDE = 1, 2
+CHEMICAL, RADIONUCLIDE, TRITIUM = 1, 2, 3
 RISK, HAZARD = "risk", "hazard"
 SIDES = (RISK, HAZARD)
 
-SCENARIO_FACTORS = ("EF", "ED", "BW", "AT", "IR", "IRA", "PEF", "ET", "RF", "SA", "TR", "THI")
+SCENARIO_FACTORS = ("EF", "ED", "BW", "AT", "IR", "IRA", "PEF", "ET", "RF", "SA", "TR", "THI",
+                    "M", "F", "N", "S", "V", "L", "W", "K")
 CONTAMINANT_VALUES = ("SFo", "SFi", "SFx", "RfDo", "RfDi", "VF", "PC", "C")
 
 CONSTANTS = {
+    "1": Decimal(1, 0),
     "10^-6": Decimal(1, -6),
     "10^-3": Decimal(1, -3),
     "0.5": Decimal(5, -1),
     "0.000114": Decimal(114, -6),
     "365": Decimal(365, 0),
+    "10^3": Decimal(1, 3),
+}
+
+# The factors that are worked out, each by its parts, which are formulas too: B = 1/VF + 1/PEF, H = ET + (F, N, S, V / L, W).
+WORKED_OUT = {
+    "B": ("1 / VF", "1 / PEF"),
+    "H": ("ET", "F, N, S, V / L, W"),
 }
 
 # The formulas as the specification prints them, by medium, class and side, in the order of the pathways; None: no such pathway.
@@ -54,6 +63,14 @@ TABLE = {
         None,
     ),
     (WATER, RADIONUCLIDE, HAZARD): (None, None, None),
+    (SOIL, TRITIUM, RISK): (None, None, None),
+    (SOIL, TRITIUM, HAZARD): (None, None, None),
+    (WATER, TRITIUM, RISK): (
+        "SFo, IR, EF, ED",
+        "SFi, IRA, M, 10^-3, H, EF, ED",
+        "SFo, SA, K, ET, 10^3, EF, ED",
+    ),
+    (WATER, TRITIUM, HAZARD): (None, None, None),
 }
 
 
@@ -64,36 +81,35 @@ def split(formula):
 
 
 def inputs_of(scenario, record):
-    """Every factor by its name, but for B, as given."""
+    """Every factor by its name, as given, but for those that are worked out."""
     return {**CONSTANTS, **scenario, **{name: record[name] for name in CONTAMINANT_VALUES}}
 
 
 def is_known(name, inputs):
-    if name == "B":
-        # B is zero when VF and PEF both are.
-        return inputs["VF"].m != 0 or inputs["PEF"].m != 0
+    """Whether a factor is not zero. One that is worked out is zero when all of its parts are absent."""
+    if name in WORKED_OUT:
+        return any(is_present(part, inputs) for part in WORKED_OUT[name])
     return inputs[name].m != 0
 
 
 def is_present(formula, inputs):
-    """A pathway is absent when a factor it names (or B) is zero; nothing else makes it absent."""
+    """A pathway is absent when a factor it names (B and H among them) is zero; nothing else makes it absent."""
     if formula is None:
         return False
     before, after = split(formula)
     return all(is_known(name, inputs) for name in before + after)
 
 
-def rounded_b(inputs, direction):
-    """B = 1/VF + 1/PEF; its parts and their sum are rounded in the direction of the term."""
-    one = working_form(Decimal(1, 0))
-    # A zero VF or PEF adds nothing: a zero divisor gives (0, 0).
-    parts = [divide(one, working_form(inputs[name]), direction) for name in ("VF", "PEF")]
-    return add(parts[0], parts[1], direction)
+def rounded_factor(name, inputs, direction):
+    """An input in its working form; B or H: its parts, as terms, and their sum are rounded in this direction."""
+    if name in WORKED_OUT:
+        return term_sum([term(part, inputs, direction) for part in WORKED_OUT[name]], direction)
+    return working_form(inputs[name])
 
 
-def rounded_product(names, inputs, b, direction):
+def rounded_product(names, inputs, direction):
     """The factors multiplied in the order shown."""
-    factors = [b if name == "B" else working_form(inputs[name]) for name in names]
+    factors = [rounded_factor(name, inputs, direction) for name in names]
     product = factors[0]
     for factor in factors[1:]:
         product = multiply(product, factor, direction)
@@ -105,11 +121,11 @@ def term(formula, inputs, direction):
     if not is_present(formula, inputs):
         return ZERO
     before, after = split(formula)
-    # B stands before the stroke only and is rounded as the products there; those after it go the other way.
-    above = rounded_product(before, inputs, rounded_b(inputs, direction), direction)
+    # The products after the stroke are rounded the other way. B and H stand before the stroke only.
+    above = rounded_product(before, inputs, direction)
     if not after:
         return above
-    return divide(above, rounded_product(after, inputs, None, OPPOSITE[direction]), direction)
+    return divide(above, rounded_product(after, inputs, OPPOSITE[direction]), direction)
 
 
 def terms_of(medium, klass, side, inputs, direction):
@@ -130,8 +146,8 @@ def has_pathway(medium, klass, side, inputs):
 
 
 def exact_factor(name, inputs):
-    if name == "B":
-        return sum((1 / value(inputs[part]) for part in ("VF", "PEF") if inputs[part].m != 0), Fraction(0))
+    if name in WORKED_OUT:
+        return sum((exact_term(part, inputs) for part in WORKED_OUT[name]), Fraction(0))
     return value(inputs[name])
 
 
