@@ -3,19 +3,21 @@ import itertools
 import random
 
 import published
-from guideline_records import HARD_NUMBERS, REQUIRED, Case, random_case, with_carry
+from guideline_records import HARD_NUMBERS, HOUSE_FACTORS, REQUIRED, Case, random_case, with_carry
 from second.decimals import ZERO, Decimal
-from second.terms import CONTAMINANT_VALUES, SCENARIO_FACTORS
+from second.terms import CONTAMINANT_VALUES, SCENARIO_FACTORS, SOIL, TRITIUM, WATER
 
 SEED = 20261115
 RANDOM_CASES = 60
 
-# The contaminant values, and the scenario factors that may be zero, on which the pathways of a medium and class depend.
+# The contaminant values, and the scenario factors that may be zero, on which the pathways of a medium and class depend. Those of
+# tritium come in two groups, the factors of its pathways and those of its H.
 DEPENDS_ON = {
     (1, 1): (("SFo", "SFi", "RfDo", "RfDi", "VF", "PEF"), ("IR", "IRA")),
     (1, 2): (("SFo", "SFi", "SFx", "PEF"), ("IR", "IRA", "ET", "RF")),
     (2, 1): (("SFo", "SFi", "RfDo", "RfDi", "PC"), ("IR", "IRA", "ET", "SA")),
     (2, 2): (("SFo",), ("IR",)),
+    (2, 3): (("SFo", "SFi"), ("IR", "IRA", "ET", "SA", "M", "K"), ("ET", "F", "N", "S", "V")),
 }
 
 
@@ -24,7 +26,9 @@ def full_case(medium, klass):
     scenario = {
         "EF": Decimal(250, 0), "ED": Decimal(25, 0), "BW": Decimal(70, 0), "AT": Decimal(70, 0), "IR": Decimal(50, 0),
         "IRA": Decimal(20, 0), "PEF": Decimal(428, 7), "ET": Decimal(8, 0), "RF": Decimal(8, -1),
-        "SA": Decimal(19400, 0), "TR": Decimal(1, -6), "THI": Decimal(1, 0),
+        "SA": Decimal(19400, 0), "TR": Decimal(1, -6), "THI": Decimal(1, 0), "M": Decimal(6696, -2), "F": Decimal(625, -3),
+        "N": Decimal(4, 0), "S": Decimal(6, 0), "V": Decimal(5, 0), "L": Decimal(276, -2), "W": Decimal(272, 0),
+        "K": Decimal(15, -6),
     }
     record = {
         "class": klass, "id": 7, "SFo": Decimal(13, -2), "SFi": Decimal(53, -3), "SFx": Decimal(21, -10),
@@ -63,6 +67,18 @@ def extreme_decimals():
             yield case.changed(**{name: same_value(d, shift) for name, d in decimals.items()})
 
 
+def extreme_houses():
+    """H at its ends, with ET and without, and each of its factors at its ends alone."""
+    case = full_case(WATER, TRITIUM)
+    least, greatest = Decimal(1, -20), Decimal(999_999_999, 20)
+    for d, under in ((least, greatest), (greatest, least)):
+        house = {**dict.fromkeys(("F", "N", "S", "V"), d), **dict.fromkeys(HOUSE_FACTORS, under)}
+        for time in (ZERO, least, greatest):
+            yield case.changed(ET=time, **house)
+        for name in ("M", "F", "N", "S", "V", "L", "W", "K"):
+            yield case.changed(**{name: d})
+
+
 def hard_roundings(source):
     """Factors of nine digits, factors whose quotients never end, and products just below a power of ten."""
     names = SCENARIO_FACTORS + CONTAMINANT_VALUES
@@ -78,7 +94,7 @@ def hard_roundings(source):
 
 
 def uneven_sums():
-    """A term that is tiny beside another, and a part of B that is tiny beside the other."""
+    """A term that is tiny beside another, and a part of B or H that is tiny beside the other."""
     one, tiny, target = Decimal(1, 0), Decimal(1, -20), Decimal(999_999_999, -8)
     case = full_case(1, 2).changed(IR=one, EF=one, ED=one, ET=one, RF=one, IRA=one, PEF=one, TR=target)
     for m in (999_999_999, 100_000_000):
@@ -87,6 +103,15 @@ def uneven_sums():
         yield case.changed(SFo=tiny, SFi=tiny, SFx=Decimal(m, 0))
     yield full_case(1, 1).changed(VF=Decimal(1, -20), PEF=Decimal(1, 20))
     yield full_case(1, 1).changed(VF=Decimal(999_999_999, 20), PEF=Decimal(3, -20))
+    house = full_case(WATER, TRITIUM).changed(**dict.fromkeys(("IRA", "EF", "ED", "M", "N", "S", "V", "L", "W"), one))
+    house = house.changed(TR=target, SFi=one, SFo=ZERO)
+    for m in (999_999_999, 100_000_000):
+        yield house.changed(ET=tiny, F=Decimal(m, 0))
+        yield house.changed(ET=Decimal(m, 0), F=tiny)
+    # Quotients that never end, and a product L, W that is rounded the other way.
+    yield house.changed(ET=ZERO, W=Decimal(3, 0))
+    yield house.changed(ET=tiny, L=Decimal(7, 0), W=Decimal(3, 0))
+    yield house.changed(ET=one, L=Decimal(333_333_333, -9), W=Decimal(999_999_999, -9))
 
 
 def refused_fields():
@@ -96,9 +121,9 @@ def refused_fields():
     for name in SCENARIO_FACTORS + CONTAMINANT_VALUES:
         for fault in faults:
             yield case.changed(**{name: fault})
-    for number in (0, 3, 2**32 - 1):
-        yield case.changed(medium=number)
-        yield case.changed(**{"class": number})
+    for medium, klass in ((0, 0), (3, 4), (2**32 - 1, 2**32 - 1)):
+        yield case.changed(medium=medium)
+        yield case.changed(**{"class": klass})
     yield case.changed(id=0)
     for name in REQUIRED:
         yield case.changed(**{name: ZERO})
@@ -107,6 +132,25 @@ def refused_fields():
         yield case.changed(SFo=d)
         yield case.changed(EF=d)
     yield case.changed(SFo=Decimal(999_999_999, 20), RfDo=Decimal(999_999_999, -20))
+
+
+def without_house():
+    """Refusal 12: tritium where L or W is zero or the medium is soil; alone, and with what is sent back before it or after it."""
+    houses = (("L",), ("W",), HOUSE_FACTORS)
+    cases = [full_case(WATER, TRITIUM).changed(**dict.fromkeys(names, ZERO)) for names in houses]
+    cases += [case.changed(medium=SOIL) for case in (full_case(WATER, TRITIUM), cases[2])]
+    for case in cases:
+        yield case
+        # Its inhalation is absent anyway; it has no pathway; the record, then the scenario, breaks a rule that is tested before.
+        yield case.changed(SFi=ZERO)
+        yield case.changed(M=ZERO, F=ZERO, ET=ZERO)
+        yield case.changed(**dict.fromkeys(CONTAMINANT_VALUES, ZERO))
+        yield case.changed(RfDi=Decimal(1, 21))
+        yield case.changed(id=0)
+        yield case.changed(AT=ZERO)
+        yield case.changed(K=Decimal(0, 1))
+        # The other classes need no house.
+        yield from (case.changed(**{"class": klass}) for klass in (1, 2))
 
 
 def two_faults():
@@ -120,7 +164,7 @@ def two_faults():
         yield case.changed(BW=ZERO, **absent)
         yield case.changed(**{**absent, "C": field})
         yield case.changed(id=0, **absent)
-        yield case.changed(**{"class": 3, "AT": ZERO})
+        yield case.changed(**{"class": 4, "AT": ZERO})
         yield case.changed(**{"class": 0, "id": 0})
         yield case.changed(medium=0, TR=ZERO)
 
@@ -131,9 +175,11 @@ def all_cases():
     cases = [case for _, case in published.read()]
     cases += missing_values()
     cases += extreme_decimals()
+    cases += extreme_houses()
     cases += hard_roundings(source)
     cases += uneven_sums()
     cases += refused_fields()
+    cases += without_house()
     cases += two_faults()
     cases += (random_case(source) for _ in range(RANDOM_CASES))
     return cases

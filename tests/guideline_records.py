@@ -1,14 +1,17 @@
 """Cases of the single guideline in the words of the specification, and random ones."""
 from second.decimals import ZERO, Decimal
 from second.guideline import guideline
-from second.terms import CONTAMINANT_VALUES, SCENARIO_FACTORS
+from second.terms import CHEMICAL, CONTAMINANT_VALUES, RADIONUCLIDE, SCENARIO_FACTORS, SOIL, TRITIUM, WATER
 
 REQUIRED = ("EF", "ED", "BW", "AT", "TR", "THI")
+# What a scenario needs as well where the class is tritium.
+HOUSE_FACTORS = ("L", "W")
 # Factors whose products and quotients fall just beside a power of ten or never end.
 HARD_NUMBERS = (999_999_999, 100_000_001, 333_333_334, 100_000_000, 333_333_333, 666_666_667, 1, 3, 7)
 
-# The first two factors of a product of the terms.
+# The first two factors of a product of the terms, and of the products that stand in tritium's H alone.
 MULTIPLIED_FIRST = (("SFo", "IR"), ("SFi", "IRA"), ("SFx", "ET"), ("SFo", "SA"), ("BW", "AT"), ("RfDo", "BW"))
+MULTIPLIED_IN_H = (("F", "N"), ("L", "W"))
 
 
 class Case:
@@ -58,14 +61,17 @@ def just_below_power(random):
 def with_carry(case, random):
     """The case with a product that rounds up to a power of ten.
 
-    In half of them the other factors are 1 and the targets 999,999,999, so that the guideline shows the carry.
+    In half of them the other factors are 1 and the targets 999,999,999, so that the guideline shows the carry. A product of H
+    shows it where ET adds nothing.
     """
-    names = random.choice(MULTIPLIED_FIRST)
+    in_h = case.record["class"] == TRITIUM and random.randrange(2)
+    names = random.choice(MULTIPLIED_IN_H if in_h else MULTIPLIED_FIRST)
     if random.randrange(2):
-        others = ("EF", "ED", "BW", "AT", "IR", "IRA", "ET", "RF", "SA", "VF", "PC", "PEF")
+        others = [name for name in SCENARIO_FACTORS + ("VF", "PC") if name not in ("TR", "THI")]
         case = case.changed(**{name: Decimal(1, 0) for name in others})
         case = case.changed(TR=Decimal(999_999_999, -8), THI=Decimal(999_999_999, -8))
-    return case.changed(**dict(zip(names, just_below_power(random))))
+    case = case.changed(**dict(zip(names, just_below_power(random))))
+    return case.changed(ET=ZERO) if in_h else case
 
 
 def random_fault(random):
@@ -79,31 +85,43 @@ def random_fault(random):
     ))
 
 
-def random_valid_case(random):
-    """Each value that may be zero is zero in about one case of six."""
+def random_classes(random):
+    """Classes of one list, mostly such as may stand together; the scenario and medium for the last one fit them all."""
+    apart = (CHEMICAL, RADIONUCLIDE), (RADIONUCLIDE, TRITIUM)
+    return (CHEMICAL, RADIONUCLIDE, TRITIUM) if random.randrange(12) == 0 else random.choice(apart)
+
+
+def random_valid_case(random, classes=(CHEMICAL, RADIONUCLIDE, TRITIUM)):
+    """Each value that may be zero is zero in about one case of six. Tritium is in water, and its scenario has a house."""
+    klass = random.choice(classes)
+    needed = REQUIRED + HOUSE_FACTORS if klass == TRITIUM else REQUIRED
+
     def value(name):
-        return ZERO if name not in REQUIRED and random.randrange(6) == 0 else random_decimal(random)
+        return ZERO if name not in needed and random.randrange(6) == 0 else random_decimal(random)
 
     record = {name: value(name) for name in CONTAMINANT_VALUES}
-    record.update({"class": random.choice((1, 2)), "id": random.choice((1, 2**32 - 1, random.randint(1, 2**32 - 1)))})
-    case = Case(random.choice((1, 2)), {name: value(name) for name in SCENARIO_FACTORS}, record)
+    record.update({"class": klass, "id": random.choice((1, 2**32 - 1, random.randint(1, 2**32 - 1)))})
+    medium = WATER if klass == TRITIUM else random.choice((SOIL, WATER))
+    case = Case(medium, {name: value(name) for name in SCENARIO_FACTORS}, record)
     if random.randrange(4) == 0:
         return with_carry(case, random)
     return case
 
 
-def random_case(random):
+def random_case(random, classes=(CHEMICAL, RADIONUCLIDE, TRITIUM)):
     """Most cases keep every rule; one in five breaks one to three."""
-    case = random_valid_case(random)
+    case = random_valid_case(random, classes)
     if random.randrange(5):
         return case
     for _ in range(random.randint(1, 3)):
-        name = random.choice(SCENARIO_FACTORS + CONTAMINANT_VALUES + REQUIRED + ("medium", "class", "id"))
-        if name in ("medium", "class"):
-            change = random.choice((0, 3, 2**32 - 1))
+        name = random.choice(SCENARIO_FACTORS + CONTAMINANT_VALUES + REQUIRED + HOUSE_FACTORS + ("medium", "class", "id"))
+        if name == "medium":
+            change = random.choice((0, SOIL, 3, 2**32 - 1))
+        elif name == "class":
+            change = random.choice((0, TRITIUM, 4, 2**32 - 1))
         elif name == "id":
             change = 0
-        elif name in REQUIRED and random.randrange(2):
+        elif name in REQUIRED + HOUSE_FACTORS and random.randrange(2):
             change = ZERO
         else:
             change = random_fault(random)

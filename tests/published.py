@@ -13,7 +13,7 @@ from guideline_records import Case, answer_of
 from second.decimals import Decimal, exponent_of, power_of_ten, value
 
 MEDIA = {"soil": 1, "water": 2}
-CLASSES = {"chemical": 1, "radionuclide": 2}
+CLASSES = {"chemical": 1, "radionuclide": 2, "tritium": 3}
 PLACE_OF_PATHWAY = {1: 0, 2: 1, 3: 2, "total": 3}
 PLACE_OF_SIDE = {"risk": 0, "hazard": 4}
 
