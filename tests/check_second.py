@@ -9,13 +9,14 @@ import itertools
 import random
 import sys
 
-from guideline_records import Case, random_case, random_valid_case
+from guideline_records import HOUSE_FACTORS, Case, random_case, random_classes, random_valid_case
 from second import steps
 from second.decimals import DOWN, UP, ZERO, Decimal, add, divide, keeps_input_rule, multiply, working_form
 from second.guideline import guideline
 from second.promises import sum_faults
 from second.sums import sums
 from second.terms import CONTAMINANT_VALUES, SCENARIO_FACTORS, TABLE, inputs_of, split, terms_of
+from site_example import tritium_case
 
 OFFICE_WORKER = {
     "EF": Decimal(250, 0), "ED": Decimal(25, 0), "BW": Decimal(70, 0), "AT": Decimal(70, 0), "IR": Decimal(50, 0),
@@ -38,6 +39,18 @@ def office_figures():
     yield "verdicts", total.verdicts, (1, 1)
 
 
+def tritium_figures():
+    """A house with a shower, in water; tritium with SFo 7.2 x 10^-14, SFi 9.6 x 10^-14 and C 500."""
+    case = tritium_case()
+    answer = guideline(case.scenario, case.medium, case.record)
+    total = sums(case.scenario, case.medium, [case.record])
+    risk = (661375661, -6), (668791421, -4), (277918126, -3), (653359672, -6)
+    yield "tritium: risk guidelines", answer.guidelines[:4], risk
+    yield "tritium: hazard guidelines", answer.guidelines[4:], (ZERO,) * 4
+    yield "tritium: sums", total.sums, ((765275260, -15), (765275270, -15), ZERO, ZERO)
+    yield "tritium: verdicts", total.verdicts, (1, 4)
+
+
 def marked_figures():
     """(name, computed, printed in the specification)"""
     one, two, three, seven = (working_form(Decimal(n, 0)) for n in (1, 2, 3, 7))
@@ -53,18 +66,20 @@ def marked_figures():
     yield "1 + 10^-20 down", add(one, tiny, DOWN), (100000000, -8)
     yield "1 + 10^-20 up", add(one, tiny, UP), (100000001, -8)
     yield from office_figures()
+    yield from tritium_figures()
 
 
 def extreme_cases():
     """For each formula the least factors before the stroke and the greatest after it, and the reverse; each target, each C.
 
-    B is least where VF and PEF are greatest. A decimal on the way with an e outside -999 to 999 is an error (second/steps.py).
+    B is least where VF and PEF are greatest, H where L and W are. A decimal on the way with an e outside -999 to 999 is an error
+    (second/steps.py).
     """
     ends = Decimal(1, -20), Decimal(999_999_999, 20)
     for (medium, klass, _), formulas in TABLE.items():
         for formula, (before, after), target, c in itertools.product(filter(None, formulas), (ends, ends[::-1]), ends, ends):
             values = dict.fromkeys(SCENARIO_FACTORS + CONTAMINANT_VALUES, before)
-            values.update(dict.fromkeys([*split(formula)[1], "VF", "PEF"], after))
+            values.update(dict.fromkeys([*split(formula)[1], "VF", "PEF", *HOUSE_FACTORS], after))
             values.update({"TR": target, "THI": target, "C": c})
             yield Case(medium, values, {**values, "class": klass, "id": 1})
 
@@ -82,9 +97,10 @@ def extreme_wrong():
 
 def random_list(source):
     """A case whose scenario and medium all records share, and 1 to 120 records in the order of their ids."""
-    first = random_valid_case(source)
+    classes = random_classes(source)
+    first = random_valid_case(source, classes[-1:])
     count = source.choice((1, 1, 2, 3, 10, 120))
-    records = [(random_case if source.randrange(40) == 0 else random_valid_case)(source).record for _ in range(count)]
+    records = [(random_case if source.randrange(40) == 0 else random_valid_case)(source, classes).record for _ in range(count)]
     for number, record in enumerate(records, 1):
         record["id"] = record["id"] and number * 5
         one = guideline(first.scenario, first.medium, record)

@@ -22,16 +22,17 @@ from second.promises import guideline_faults, sum_faults
 from second.sites import site
 from second.sums import sums
 from second.terms import CHEMICAL, CONTAMINANT_VALUES, SCENARIO_FACTORS
-from site_example import EXAMPLE_TEXT, example_case, example_site
+from site_example import EXAMPLE_TEXT, TRITIUM_TEXT, example_case, example_site, tritium_case, tritium_site
 from site_frames import filled
-from site_maker import family_of, planned, sites
+from site_maker import sites
+from site_naming import family_of, planned
 
 # Kind, place, two words, the decimals as m, e and two zero bytes, (the verdicts,) unused bytes, the last word.
 RESULT_FORM = "<4I" + "IhH" * 8 + "428sI"
 SUMMARY_FORM = "<4I" + "IhH" * 4 + "2I452sI"
 # The refusals that the header and the later blocks can have. Block 0 also goes with 1 and 10.
-IN_HEADER, IN_LATER = (1, 2, 3, 4, 5, 6, 10), (2, 3, 4, 7, 8)
-# Of the ten refusals all but 11, which no site leads to. The number 9 is not used.
+IN_HEADER, IN_LATER = (1, 2, 3, 4, 5, 6, 10), (2, 3, 4, 7, 12, 8)
+# Of the eleven refusals all but 11, which no site leads to. The number 9 is not used.
 REFUSALS = sorted({ACCEPTED, *IN_HEADER, *IN_LATER})
 VERDICTS = (1, 2, 3, 4)
 FIGURE = r"\d\.\d{8}E(?:\+0|[+-][1-9]\d*)"
@@ -146,7 +147,7 @@ def contaminant_writings():
         yield f"contaminant: room {length}", out[:length], write_contaminant(out[:length], 0, {**record, "id": 0}), ROOM
     for place in (0, 121, WORD - 1):
         yield f"contaminant: place {place}", out, write_contaminant(out, place, record), FIELD
-    for klass in (0, 3, WORD - 1):
+    for klass in (0, 4, WORD - 1):
         yield f"contaminant: class {klass}", out, write_contaminant(out, 1, {**record, "class": klass}), FIELD
     yield "contaminant: id 0", out, write_contaminant(out, 1, {**record, "id": 0}), FIELD
     for name in CONTAMINANT_VALUES:
@@ -158,8 +159,7 @@ def writers_wrong():
     for what, out, answer, number in itertools.chain(header_writings(), contaminant_writings()):
         if answer != (number, out):
             yield what
-    case = example_case()
-    for length in (512, 513, 1024):
+    for case, length in itertools.product((example_case(), tritium_case()), (512, 513, 1024)):
         out = filled(length)
         if write_header(out, 2, 120, case.scenario) != (ACCEPTED, header_block(2, 120, case.scenario) + out[BLOCK:]):
             yield f"header in {length} bytes"
@@ -168,10 +168,11 @@ def writers_wrong():
 
 
 def example_wrong():
-    """The text that the specification prints for its example, and the lengths that it names."""
+    """The text that the specification prints for its examples, and the lengths that it names."""
     example = example_site()
-    if listing(example) != EXAMPLE_TEXT:
-        yield f"the example prints\n{listing(example)}"
+    for what, given, text in (("example", example, EXAMPLE_TEXT), ("example of tritium", tritium_site(), TRITIUM_TEXT)):
+        if listing(given) != text:
+            yield f"the {what} prints\n{listing(given)}"
     for given, text in ((example[:1023], f"refused {LENGTH} block 0\n"), (example + bytes(BLOCK), "refused 5 block 0\n")):
         if listing(given) != text:
             yield f"{len(given)} bytes of the example print {listing(given)}"

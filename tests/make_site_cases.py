@@ -15,10 +15,11 @@ import sys
 from check_sites import site_wrong
 from second.listing import text_of
 from second.sites import site
-from site_example import EXAMPLE_TEXT, example_site
+from site_example import EXAMPLE_TEXT, example_site, tritium_site
 from site_faults import BROKEN_FIELDS
 from site_frames import case_frame, filled, number_of
-from site_maker import FAMILIES, family_of, family_sites, one_fault, planned
+from site_maker import FAMILIES, family_sites, one_fault
+from site_naming import family_of, planned
 
 FOLDER = pathlib.Path(__file__).parent.parent / "crates"
 EXAMPLE, EXAMPLE_PRINTED = FOLDER / "gvlist" / "stdin", FOLDER / "gvlist" / "stdout"
@@ -29,12 +30,13 @@ SEED = 20261116
 USUAL_NUMBER, USUAL_LENGTH = 7, 2048
 NUMBERS = {"missing_values": 30, "missing_factors": 22, "near_target": 20, "near_concentration": 12, "exact_targets": 12,
            "two_in_one_block": 17, "faults_in_two_blocks": 8, "lengths": 44, "small_shares": 4, "many_blocks": 2,
-           "id_orders": 10}
-LENGTHS = {"many_blocks": 4608}
+           "id_orders": 10, "missing_house": 24, "mixed_classes": 14, "mixed_in_many": 2, "without_house": 12,
+           "tritium_in_soil": 12}
+LENGTHS = {"many_blocks": 4608, "mixed_classes": 3072, "mixed_in_many": 4608}
 # Sites that are stored though they are long: the longest that has a right length, and one block more.
 LONG = ("lengths: 61952 bytes, longest; accepted", "lengths: 62464 bytes, cut; refused 1 block 0")
-# The refusals of a site: of the ten all but 11. The number 9 is not used. Verdict 0 is that of a refused call.
-REFUSALS, VERDICTS = {0, 1, 2, 3, 4, 5, 6, 7, 8, 10}, {0, 1, 2, 3, 4}
+# The refusals of a site: of the eleven all but 11. The number 9 is not used. Verdict 0 is that of a refused call.
+REFUSALS, VERDICTS = {0, 1, 2, 3, 4, 5, 6, 7, 8, 10, 12}, {0, 1, 2, 3, 4}
 
 
 def first_sites(family):
@@ -66,8 +68,9 @@ def fault_sites():
 
 
 def chosen():
-    """The example of the specification, then sites of each family."""
-    yield "example: the specification; accepted", example_site(), len(example_site())
+    """The examples of the specification, then sites of each family."""
+    for what, given in (("the specification", example_site()), ("tritium in water", tritium_site())):
+        yield f"example: {what}; accepted", given, len(given)
     for family, _ in FAMILIES:
         yield from fault_sites() if family is one_fault else first_sites(family)
 

@@ -1,14 +1,20 @@
-"""The example of the specification: its site, made by the writers of the second calculation, and the text printed for it."""
+"""The examples of the specification: their sites, made by the writers of the second calculation, and the text printed for each."""
 from guideline_records import Case
 from second.blocks import BLOCK, write_contaminant, write_header
 from second.decimals import Decimal
-from site_parts import PERSON, SCENARIOS
+from second.terms import TRITIUM, WATER
+from site_parts import PERSON, SCENARIOS, WITH_HOUSE
 
 EXAMPLE_TEXT = """\
 1 risk 5.72319997E+0 - - 5.72319997E+0
 1 hazard 4.08799998E+4 - - 4.08799998E+4
 sum risk 3.49454850E-7 3.49454852E-7 within
 sum hazard 4.89236790E-5 4.89236792E-5 within
+"""
+TRITIUM_TEXT = """\
+1 risk 6.61375661E+2 6.68791421E+4 2.77918126E+5 6.53359672E+2
+sum risk 7.65275260E-7 7.65275270E-7 within
+sum hazard - - none
 """
 
 
@@ -18,9 +24,23 @@ def example_case():
     return Case(1, {**PERSON, **SCENARIOS[0]}, record)
 
 
-def example_site():
-    case = example_case()
+def tritium_case():
+    """A house with a shower, in water; tritium, id 1, SFo 7.2 x 10^-14, SFi 9.6 x 10^-14, C 500, others zero, PEF and RF too."""
+    record = {"class": TRITIUM, "id": 1, "SFo": Decimal(72, -15), "SFi": Decimal(96, -15), "C": Decimal(500, 0)}
+    scenario = {name: d for name, d in WITH_HOUSE.items() if name not in ("PEF", "RF")}
+    return Case(WATER, {**PERSON, **scenario}, record)
+
+
+def site_of(case):
     header = write_header(bytes(BLOCK), case.medium, 1, case.scenario)
     contaminant = write_contaminant(bytes(BLOCK), 1, case.record)
     assert header[0] == contaminant[0] == 0
     return header[1] + contaminant[1]
+
+
+def example_site():
+    return site_of(example_case())
+
+
+def tritium_site():
+    return site_of(tritium_case())

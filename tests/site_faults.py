@@ -4,7 +4,7 @@ from typing import Callable, NamedTuple
 
 from guideline_records import REQUIRED
 from second.blocks import CONTAMINANT, FIELDS, HEADER, LAST_WORD, WORD, with_last_word, word
-from second.guideline import CHECK, COUNT, FACTOR, FIELD, KIND, ORDER, PATHWAY
+from second.guideline import CHECK, COUNT, FACTOR, FIELD, HOUSE, KIND, ORDER, PATHWAY
 from second.terms import CONTAMINANT_VALUES, SCENARIO_FACTORS
 
 # Fields that break the rule of a decimal: m, e in two's complement, the two bytes that have to be zero.
@@ -34,7 +34,14 @@ UNNEEDED = {
     (1, 2): ("RfDo", "RfDi", "VF", "PC", "C"),
     (2, 1): ("SFx", "VF", "PC", "C"),
     (2, 2): ("SFi", "SFx", "RfDo", "RfDi", "VF", "PC", "C"),
+    (2, 3): ("SFx", "RfDo", "RfDi", "VF", "PC", "C"),
 }
+
+# Words that are no medium and no class, whatever their low bytes are.
+NO_MEDIUM = (0, 3, 257, 258, 1 + 2**16, 2 + 2**24, 1 + 2**31, WORD - 1)
+NO_CLASS = (0, 4, 257, 258, 259, 1 + 2**16, 3 + 2**16, 2 + 2**24, 1 + 2**31, 3 + 2**31, WORD - 1)
+# Places of bytes beside the ends of the fields, and further on; those behind a block's last field are unused.
+FIELD_ENDS = (80, 81, 84, 87, 100, 111, 112, 176, 177, 180, 183, 191, 200, 300, 504, LAST_WORD - 1)
 
 
 class Fault(NamedTuple):
@@ -85,16 +92,15 @@ def frame_faults(place, kind):
         yield Fault(KIND, f"kind {wrong}", put_word(0, wrong))
 
 
-def field_faults(names, word_at_8):
+def field_faults(names, word_at_8, wrong_words):
     """Refusal 4: decimals, the medium or class, unused bytes."""
     for number, name in enumerate(names):
         for fault, field in BROKEN_FIELDS.items():
             yield Fault(FIELD, f"{name} {fault}", put(FIELDS + 8 * number, struct.pack("<IhH", *field)))
-    for wrong in (0, 3, 257, 258, 1 + 2**16, 2 + 2**24, 1 + 2**31, WORD - 1):
+    for wrong in wrong_words:
         yield Fault(FIELD, f"{word_at_8} {wrong}", put_word(8, wrong))
-    end = FIELDS + 8 * len(names)
-    for at in sorted({end, end + 1, end + 4, end + 7, 100, 111, 112, 300, 504, LAST_WORD - 1}):
-        if at >= end:
+    for at in FIELD_ENDS:
+        if at >= FIELDS + 8 * len(names):
             yield Fault(FIELD, f"unused byte {at} set", put(at, bytes([1 if at % 2 else 255])))
 
 
@@ -123,21 +129,31 @@ def pathway_faults(medium, klass):
         yield Fault(PATHWAY, f"known: {' '.join(kept) or 'nothing'}", zero_fields(numbers))
 
 
+def house_faults(klass):
+    """Refusal 12 by a class that no record can have there."""
+    yield Fault(HOUSE, f"class {klass} there", put_word(8, klass))
+
+
 def header_faults(count):
     yield from frame_faults(0, HEADER)
-    yield from field_faults(SCENARIO_FACTORS, "medium")
+    yield from field_faults(SCENARIO_FACTORS, "medium", NO_MEDIUM)
     yield from count_faults(count)
     yield from factor_faults()
 
 
-def contaminant_faults(place, medium, klass, previous_id):
-    """The first contaminant has none before it: previous_id None."""
+def contaminant_faults(place, medium, klass, previous_id, wrong_class):
+    """The first contaminant has none before it: previous_id None. The class that it cannot have there: None where each is possible.
+
+    A fault of that class comes last, so that every other one has the same number in each site.
+    """
     yield from frame_faults(place, CONTAMINANT)
-    yield from field_faults(CONTAMINANT_VALUES, "class")
+    yield from field_faults(CONTAMINANT_VALUES, "class", NO_CLASS)
     yield Fault(FIELD, "id 0", put_word(12, 0))
     if previous_id is not None:
         yield from order_faults(previous_id)
     yield from pathway_faults(medium, klass)
+    if wrong_class is not None:
+        yield from house_faults(wrong_class)
 
 
 def damaged(block, faults):

@@ -8,69 +8,25 @@ name begins with its family. Where the maker knows what has to be sent back the 
 """
 import itertools
 import random
-import re
 
-from guideline_records import HARD_NUMBERS, Case, random_decimal, random_valid_case, with_carry
-from second.blocks import BLOCK, WORD, with_last_word, word
+from guideline_records import HARD_NUMBERS, HOUSE_FACTORS, Case, random_classes, random_decimal, random_valid_case, with_carry
+from house_sites import missing_house, mixed_classes, mixed_in_many, tritium_in_soil, without_house
+from second.blocks import BLOCK, FIELDS, WORD, with_last_word, word
 from second.decimals import DOWN, UP, ZERO, Decimal, keeps_input_rule, rounded, value
-from second.guideline import ACCEPTED, CHECK, COUNT, KIND, LENGTH, ORDER, ROOM, TARGET
+from second.guideline import CHECK, COUNT, KIND, LENGTH, ORDER, ROOM, TARGET
 from second.sites import LONGEST
 from second.sums import sums
-from second.terms import (CHEMICAL, CONTAMINANT_VALUES, RADIONUCLIDE, RISK, SCENARIO_FACTORS, SIDES, WATER, exact_term_sum,
+from second.terms import (CHEMICAL, CONTAMINANT_VALUES, RADIONUCLIDE, RISK, SCENARIO_FACTORS, SIDES, TRITIUM, WATER, exact_term_sum,
                           has_pathway, inputs_of)
 from site_faults import BROKEN_FIELDS, are_apart, put_word
+from site_naming import any_room, interleaved, lent, refusal, room_for, short_room, shuffled
 from site_parts import CLASSES, KINDS, MEDIA, ONE, Site, full_site, plausible_site, quick_site, some_ids, with_decimals
 
 
-def planned(name):
-    """The refusal and block that the name ends with, (0, 0) for "; accepted"; None when it ends with neither."""
-    if name.endswith("; accepted"):
-        return ACCEPTED, 0
-    found = re.search(r"; refused (\d+) block (\d+)$", name)
-    return found and (int(found[1]), int(found[2]))
-
-
-def family_of(name):
-    return name.partition(":")[0]
-
-
-def refusal(number, block):
-    return f"; refused {number} block {block}"
-
-
-def room_for(source, length):
-    """An output that is long enough: mostly just so."""
-    return length + source.choice((0, 0, 0, 0, 1, 3, 511, 512, 700))
-
-
-def any_room(source, length):
-    """An output of any length, for a site that is refused by another number than 10."""
-    return source.choice((0, 1, 511, 512, max(length - 1, 0), length, length, length, length + 1, length + 512))
-
-
-def short_room(source, length):
-    """An output that is too short."""
-    return source.choice((0, 1, 511, 512, length // 2, length - 512, length - 511, length - 4, length - 1))
-
-
-def lent(source, name, content):
-    """The case with an output of any length when the site is sure to be refused, and else of a length that is enough."""
-    is_refused = planned(name) not in (None, (ACCEPTED, 0))
-    return name, content, (any_room if is_refused else room_for)(source, len(content))
-
-
-def shuffled(source, things):
-    things = list(things)
-    source.shuffle(things)
-    return things
-
-
-def interleaved(things, key):
-    """The things in an order in which each key comes once before any comes again."""
-    groups = {}
-    for thing in things:
-        groups.setdefault(key(thing), []).append(thing)
-    return [thing for row in itertools.zip_longest(*groups.values()) for thing in row if thing is not None]
+# The refusals that can be made in a block at each place of a short site, in the order of their tests.
+IN_BLOCK = {0: (2, 3, 4, 5, 6), 1: (2, 3, 4, 12, 8), **dict.fromkeys((2, 3), (2, 3, 4, 7, 12, 8))}
+# Where the fields of a header end, and those of a contaminant.
+HEADER_END, CONTAMINANT_END = (FIELDS + 8 * len(names) for names in (SCENARIO_FACTORS, CONTAMINANT_VALUES))
 
 
 def missing_values(source):
@@ -101,7 +57,8 @@ def extreme_decimals(source):
     """The least and greatest inputs, in one place and in many, and values written with trailing zeros."""
     everything = SCENARIO_FACTORS + CONTAMINANT_VALUES
     groups = [(name,) for name in everything]
-    groups += [everything, ("TR", "THI"), CONTAMINANT_VALUES, SCENARIO_FACTORS[:-2]]
+    others = tuple(name for name in SCENARIO_FACTORS if name not in ("TR", "THI"))
+    groups += [everything, ("TR", "THI"), CONTAMINANT_VALUES, others, ("F", "N", "S", "V"), HOUSE_FACTORS]
     extremes = [Decimal(1, -20), Decimal(1, 20), Decimal(999_999_999, -20), Decimal(999_999_999, 20), Decimal(1000, -3)]
     for names, d in shuffled(source, itertools.product(groups, extremes)):
         site = with_decimals(full_site(source, source.choice((1, 2))), {name: d for name in names})
@@ -262,10 +219,10 @@ def zero_concentrations(source):
 
 
 def one_side(source):
-    """Lists in which no contaminant has a risk, or none a hazard; concentrations are measured."""
+    """Lists in which no contaminant has a risk, or none a hazard, as tritium; concentrations are measured."""
     for number in itertools.count():
-        site = full_site(source, 1 + number % 3, klass=CHEMICAL)
         missing = (("SFo", "SFi"), ("RfDo", "RfDi"))[number % 2]
+        site = full_site(source, 1 + number % 3, klass=TRITIUM if number % 4 == 3 else CHEMICAL)
         for record in site.records:
             record.update(dict.fromkeys(missing, ZERO))
         yield lent(source, f"one side: without {' and '.join(missing)}; accepted", site.content())
@@ -279,33 +236,46 @@ def one_fault(source):
     """
     cases, counts = [], (1, 1, 3, 3)
     for place, count in enumerate(counts):
-        faults = full_site(source, count).faults(place)
+        faults = site_with(source, count, {place: IN_BLOCK[place]}).faults(place)
         of_decimals = [number for number, fault in enumerate(faults) if fault.sort() in BROKEN_FIELDS]
         elsewhere = {number for rank, number in enumerate(of_decimals) if place > 0 and rank % 3 != place - 1}
         cases += [(place, number, fault) for number, fault in enumerate(faults) if number not in elsewhere]
     by_sort = interleaved(shuffled(source, cases), key=lambda case: case[2].sort())
-    for place, number, _ in interleaved(by_sort, key=lambda case: (case[0], case[2].number)):
-        site = full_site(source, counts[place])
+    for place, number, made in interleaved(by_sort, key=lambda case: (case[0], case[2].number)):
+        site = site_with(source, counts[place], {place: [made.number]})
         fault = site.faults(place)[number]
         yield lent(source, f"one fault: {fault.name}" + refusal(fault.number, place), site.with_faults({place: [fault]}))
 
 
-def numbers_at(place):
-    """The refusals that can be made in a block at this place."""
-    return (2, 3, 4, 5, 6) if place == 0 else (2, 3, 4, 8) if place == 1 else (2, 3, 4, 7, 8)
+def numbers_at(site, place):
+    """The refusals that can be made in a block of this site: 12 not in every one."""
+    return sorted({fault.number for fault in site.faults(place)})
+
+
+def site_with(source, count, numbers):
+    """A full site in which these refusals, which stand by place, can be made."""
+    while True:
+        site = full_site(source, count)
+        if all(set(of_block) <= set(numbers_at(site, place)) for place, of_block in numbers.items()):
+            return site
 
 
 def fault_with(source, site, place, number):
     return source.choice([fault for fault in site.faults(place) if fault.number == number])
 
 
+def some_fault(source, site, place):
+    """A fault of this block; each refusal comes as often as any other."""
+    return fault_with(source, site, place, source.choice(numbers_at(site, place)))
+
+
 def two_in_one_block(source):
-    """Two faults in one block: the lower number is sent back."""
-    cases = [(place, pair) for place in (0, 1, 2, 3) for pair in itertools.combinations(numbers_at(place), 2)]
+    """Two faults in one block: the one that is tested first is sent back."""
+    cases = [(place, pair) for place in (0, 1, 2, 3) for pair in itertools.combinations(IN_BLOCK[place], 2)]
     endless = (source.choice(cases) for _ in itertools.count())
     # Every pair comes early.
     for place, pair in itertools.chain(interleaved(shuffled(source, cases), key=lambda case: case[1]), endless):
-        site = full_site(source, 3)
+        site = site_with(source, 3, {place: pair})
         one, other = (fault_with(source, site, place, number) for number in pair)
         while not are_apart(site.blocks()[place], one, other):
             one, other = (fault_with(source, site, place, number) for number in pair)
@@ -316,11 +286,11 @@ def two_in_one_block(source):
 def faults_in_two_blocks(source):
     """A fault in each of two blocks: the earlier block is sent back, whatever the numbers are."""
     places = [(0, 1), (0, 3), (1, 2), (1, 3), (2, 3)]
-    cases = [(early, late, pair) for early, late in places for pair in itertools.product(numbers_at(early), numbers_at(late))]
+    cases = [(early, late, pair) for early, late in places for pair in itertools.product(IN_BLOCK[early], IN_BLOCK[late])]
     endless = (source.choice(cases) for _ in itertools.count())
     # Every pair comes early.
     for early, late, pair in itertools.chain(interleaved(shuffled(source, cases), key=lambda case: case[2]), endless):
-        site = full_site(source, 3)
+        site = site_with(source, 3, {early: pair[:1], late: pair[1:]})
         one, other = fault_with(source, site, early, pair[0]), fault_with(source, site, late, pair[1])
         name = f"two blocks: {one.name}, then {other.name}" + refusal(pair[0], early)
         yield lent(source, name, site.with_faults({early: [one], late: [other]}))
@@ -335,7 +305,7 @@ def short_output(source):
         room = lengths[number % 5] if number < 15 else short_room(source, len(content))
         yield f"short output: {room} of {len(content)}" + refusal(ROOM, 0), content, room
         place = source.randint(0, len(site.records))
-        fault = fault_with(source, site, place, source.choice(numbers_at(place)))
+        fault = some_fault(source, site, place)
         yield (f"short output: and {fault.name}" + refusal(fault.number, place), site.with_faults({place: [fault]}),
                short_room(source, len(content)))
 
@@ -392,7 +362,7 @@ def length_and_faults(source):
     while True:
         site = full_site(source, 2)
         place = source.randint(0, 2)
-        fault = fault_with(source, site, place, source.choice(numbers_at(place)))
+        fault = some_fault(source, site, place)
         content = site.with_faults({place: [fault]})
         cut = source.choice((1, 4, 100, 511, 513, 1023))
         yield lent(source, f"length and faults: {cut} bytes cut, {fault.name}" + refusal(LENGTH, 0), content[:-cut])
@@ -416,7 +386,7 @@ def many_blocks(source):
         if place is None:
             yield lent(source, f"many blocks: {count}; accepted", site.content())
             continue
-        fault = fault_with(source, site, place, source.choice(numbers_at(place)))
+        fault = some_fault(source, site, place)
         name = f"many blocks: {count}, {fault.name}" + refusal(fault.number, place)
         yield lent(source, name, site.with_faults({place: [fault]}))
 
@@ -427,7 +397,7 @@ def bit_flips(source):
         blocks = plausible_site(source, 1 + number % 3).blocks()
         place = source.randrange(len(blocks))
         # Most of a block is unused: half of the flips are in the bytes that have a meaning.
-        at = source.choice((source.randrange(BLOCK), source.randrange(112 if place == 0 else 80)))
+        at = source.choice((source.randrange(BLOCK), source.randrange(HEADER_END if place == 0 else CONTAMINANT_END)))
         bit = 1 << source.randrange(8)
         block = bytearray(blocks[place])
         block[at] ^= bit
@@ -442,7 +412,7 @@ def kept_totals(source):
     for number in itertools.count():
         blocks = plausible_site(source, 1 + number % 3).blocks()
         place = source.randrange(len(blocks))
-        one, other = (4 * at for at in source.sample(range(28), 2))
+        one, other = (4 * at for at in source.sample(range(HEADER_END // 4), 2))
         first, second = word(blocks[place], one), word(blocks[place], other)
         if number % 2:
             first, second = second, first
@@ -485,8 +455,9 @@ def random_sites(source):
     """Inputs of every size, values missing anywhere, at times a fault."""
     while True:
         count = source.choice((1, 1, 1, 2, 2, 3, 6))
-        cases = [random_valid_case(source) for _ in range(count)]
-        site = Site(cases[0].medium, cases[0].scenario, [case.record for case in cases])
+        classes = random_classes(source)
+        case = random_valid_case(source, classes[-1:])
+        site = Site(case.medium, case.scenario, [random_valid_case(source, classes).record for _ in range(count)])
         for record, number in zip(site.records, some_ids(source, count)):
             record["id"] = number
             if source.randrange(3):
@@ -503,9 +474,10 @@ def random_sites(source):
 
 # Each family and how many of its sites come in one round.
 FAMILIES = (
-    (missing_values, 4), (missing_factors, 2), (extreme_decimals, 1), (near_target, 2), (near_concentration, 1),
+    (missing_values, 4), (missing_factors, 2), (missing_house, 1), (extreme_decimals, 1), (near_target, 2), (near_concentration, 1),
     (exact_targets, 1), (hard_roundings, 1), (small_shares, 1), (zero_concentrations, 1), (one_side, 1), (one_fault, 6),
-    (two_in_one_block, 2), (faults_in_two_blocks, 2), (short_output, 1), (long_output, 1), (lengths, 1),
+    (two_in_one_block, 2), (faults_in_two_blocks, 2), (mixed_classes, 2), (mixed_in_many, 1), (without_house, 1),
+    (tritium_in_soil, 1), (short_output, 1), (long_output, 1), (lengths, 1),
     (length_and_faults, 1), (id_orders, 1), (many_blocks, 1), (bit_flips, 1), (kept_totals, 1), (exchanged_blocks, 1),
     (plausible_sites, 1), (random_sites, 2),
 )

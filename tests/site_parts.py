@@ -1,19 +1,20 @@
 """The parts from which test sites are made: scenarios, records, and a site before and after it is bytes."""
-import itertools
-
 from guideline_records import Case
 from second.blocks import WORD, contaminant_block, header_block
 from second.decimals import ZERO, Decimal
 from second.guideline import has_any_pathway
-from second.terms import CHEMICAL, CONTAMINANT_VALUES, RADIONUCLIDE, SCENARIO_FACTORS, SOIL, WATER, inputs_of
+from second.terms import CHEMICAL, CONTAMINANT_VALUES, RADIONUCLIDE, SCENARIO_FACTORS, SOIL, TRITIUM, WATER, inputs_of
 from site_faults import contaminant_faults, damaged, header_faults
 
 MEDIA = {SOIL: "soil", WATER: "water"}
-CLASSES = {CHEMICAL: "chemical", RADIONUCLIDE: "radionuclide"}
-KINDS = list(itertools.product(MEDIA, CLASSES))
+CLASSES = {CHEMICAL: "chemical", RADIONUCLIDE: "radionuclide", TRITIUM: "tritium"}
+# The media and classes that go together, and the classes that may stand in one list of a medium.
+KINDS = [(SOIL, CHEMICAL), (SOIL, RADIONUCLIDE), (WATER, CHEMICAL), (WATER, RADIONUCLIDE), (WATER, TRITIUM)]
+TOGETHER = {SOIL: ((CHEMICAL, RADIONUCLIDE),), WATER: ((CHEMICAL, RADIONUCLIDE), (RADIONUCLIDE, TRITIUM))}
 ONE = Decimal(1, 0)
 
-# The built-in scenarios of the specification, and one in which every factor is known.
+# The built-in scenarios of the specification; one in which every factor is known but those of a house; and one with a house, in
+# which SA is in m2 and IRA in m3 per hour, as tritium needs them.
 PERSON = {"BW": Decimal(70, 0), "AT": Decimal(70, 0), "TR": Decimal(1, -6), "THI": ONE}
 SCENARIOS = (
     {"EF": Decimal(250, 0), "ED": Decimal(25, 0), "IR": Decimal(50, 0), "IRA": Decimal(20, 0), "PEF": Decimal(428, 7)},
@@ -23,8 +24,11 @@ SCENARIOS = (
      "ET": Decimal(4, 0), "RF": Decimal(8, -1)},
     {"EF": Decimal(350, 0), "ED": Decimal(30, 0), "IR": Decimal(2, 0), "IRA": Decimal(15, 0), "PEF": Decimal(463, 7),
      "ET": Decimal(25, -1), "RF": Decimal(7, -1), "SA": Decimal(19400, 0)},
+    {"EF": Decimal(350, 0), "ED": Decimal(30, 0), "IR": Decimal(2, 0), "IRA": Decimal(83, -2), "PEF": Decimal(463, 7),
+     "ET": Decimal(167, -3), "RF": Decimal(7, -1), "SA": Decimal(19, -1), "M": Decimal(6696, -2), "F": Decimal(625, -3),
+     "N": Decimal(4, 0), "S": Decimal(6, 0), "V": Decimal(5, 0), "L": Decimal(276, -2), "W": Decimal(272, 0), "K": Decimal(15, -6)},
 )
-FULL = len(SCENARIOS) - 1
+WITHOUT_HOUSE, WITH_HOUSE = SCENARIOS[-2:]
 
 # The powers of ten between which plausible contaminant values lie, by class.
 PLAUSIBLE = {
@@ -32,6 +36,8 @@ PLAUSIBLE = {
                "PC": (-4, -1), "C": (-2, 3)},
     RADIONUCLIDE: {"SFo": (-12, -9), "SFi": (-12, -9), "SFx": (-11, -8), "RfDo": (-5, -1), "RfDi": (-5, -1), "VF": (3, 6),
                    "PC": (-4, -1), "C": (1, 6)},
+    TRITIUM: {"SFo": (-14, -13), "SFi": (-14, -13), "SFx": (-11, -8), "RfDo": (-5, -1), "RfDi": (-5, -1), "VF": (3, 6),
+              "PC": (-4, -1), "C": (0, 5)},
 }
 
 
@@ -56,7 +62,17 @@ class Site:
             return list(header_faults(len(self.records)))
         record = self.records[place - 1]
         previous_id = self.records[place - 2]["id"] if place > 1 else None
-        return list(contaminant_faults(place, self.medium, record["class"], previous_id))
+        return list(contaminant_faults(place, self.medium, record["class"], previous_id, self.class_without_house(place)))
+
+    def class_without_house(self, place):
+        """The class that no record at this place can have beside the earlier ones (refusal 12), None where each is possible.
+
+        Tritium is not possible in soil, where L or W is zero, and after a chemical; a chemical is not after tritium.
+        """
+        earlier = {record["class"] for record in self.records[:place - 1]}
+        if self.medium == SOIL or ZERO in (self.scenario["L"], self.scenario["W"]) or CHEMICAL in earlier:
+            return TRITIUM
+        return CHEMICAL if TRITIUM in earlier else None
 
     def with_faults(self, faults):
         """The bytes with these faults, which stand by place."""
@@ -65,9 +81,10 @@ class Site:
 
 
 def plausible(source, low, high):
-    """A decimal worth 10^low to 10^(high + 1), with one to nine digits."""
-    digits = source.choice((1, 2, 3, 9))
-    return Decimal(source.randint(10**(digits - 1), 10**digits - 1), source.randint(low, high) - digits + 1)
+    """A decimal worth 10^low to 10^(high + 1), with one to nine digits, of which none is below 10^-20."""
+    power = source.randint(low, high)
+    digits = min(source.choice((1, 2, 3, 9)), power + 21)
+    return Decimal(source.randint(10**(digits - 1), 10**digits - 1), power - digits + 1)
 
 
 def some_ids(source, count):
@@ -84,9 +101,9 @@ def full_record(source, klass, number):
     return {"class": klass, "id": number, **values}
 
 
-def some_scenario(source):
-    """One of the fixed scenarios, at times with nine digits in its factors."""
-    scenario = {**PERSON, **source.choice(SCENARIOS)}
+def some_scenario(source, classes):
+    """One of the fixed scenarios that these classes can have, at times with nine digits in its factors."""
+    scenario = {**PERSON, **(WITH_HOUSE if TRITIUM in classes else source.choice(SCENARIOS))}
     if source.randrange(2):
         scenario = {name: Decimal(d.m * 10**5 + source.randrange(10**5), d.e - 5) if d.m < 10**4 else d
                     for name, d in scenario.items()}
@@ -94,21 +111,23 @@ def some_scenario(source):
 
 
 def full_site(source, count, medium=None, klass=None):
-    """Every factor and value known, so that every record has a pathway."""
-    medium = medium or source.choice(list(MEDIA))
-    ids = some_ids(source, count)
-    records = [full_record(source, klass or source.choice(list(CLASSES)), number) for number in ids]
-    return Site(medium, {**PERSON, **SCENARIOS[FULL]}, records)
+    """Every value known and every factor that its classes need, so that every record has a pathway."""
+    medium = medium or (WATER if klass == TRITIUM else source.choice(list(MEDIA)))
+    classes = (klass,) if klass else source.choice(TOGETHER[medium])
+    records = [full_record(source, source.choice(classes), number) for number in some_ids(source, count)]
+    scenario = WITH_HOUSE if TRITIUM in classes else source.choice((WITHOUT_HOUSE, WITH_HOUSE))
+    return Site(medium, {**PERSON, **scenario}, records)
 
 
 def plausible_site(source, count):
     """Plausible records, some values missing, each with a pathway."""
-    medium, scenario = source.choice(list(MEDIA)), some_scenario(source)
-    records = []
+    medium = source.choice(list(MEDIA))
+    classes = source.choice(TOGETHER[medium])
+    scenario, records = some_scenario(source, classes), []
     for number in some_ids(source, count):
         record = None
         while record is None or not has_any_pathway(medium, record, inputs_of(Site(medium, scenario, []).scenario, record)):
-            record = full_record(source, source.choice(list(CLASSES)), number)
+            record = full_record(source, source.choice(classes), number)
             record.update({name: ZERO for name in CONTAMINANT_VALUES if source.randrange(5) == 0})
         records.append(record)
     return Site(medium, scenario, records)
