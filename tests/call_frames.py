@@ -1,16 +1,16 @@
 """The cases that the program call_cases reads, and the lines that it must print, by the second calculation.
 
-A case is three little-endian words, the call, its argument and a count, and the first 128 bytes of each block that the call
-takes. The count is that of a list's records, or the place of a contaminant that is written. The line of a case is the number
-of its call and what came back.
+A case is three little-endian words, the call, its argument and a count, and the first bytes of each block that the call takes:
+288 of a header, 128 of a contaminant. The count is that of a list's records, or the place of a contaminant that is written. The
+line of a case is the number of its call and what came back.
 """
 import struct
 from typing import NamedTuple
 
 from guideline_records import Case
-from second.blocks import contaminant_block, header_block, write_contaminant, write_header
+from second.blocks import HEADER, contaminant_block, header_block, word, write_contaminant, write_header
 from second.decimals import DOWN, UP, ZERO, add, are_operands, divide, in_range, multiply, value, working_form
-from second.guideline import guideline
+from second.guideline import SCENARIO, guideline
 from second.promises import guideline_faults, sum_faults
 from second.sums import sums
 from second.terms import SCENARIO_FACTORS
@@ -18,11 +18,15 @@ from site_frames import filled
 from site_parts import PERSON, SCENARIOS
 
 GUIDELINE, LIST, WRITE_HEADER, WRITE_CONTAMINANT, BUILT_IN, DECIMALS = range(1, 7)
-PART = 128  # the bytes of a block that are stored: all that is read of it
-SCENARIO = 11  # the refusal of a built-in number
+HEADER_PART = 288  # the bytes of a header that are stored: all that is read of it
+CONTAMINANT_PART = 128  # those of a contaminant
 WORKING, AT_MOST = 6, 7
 # The choices of call 6 before those two.
 OPERATIONS = tuple((operation, direction) for operation in (multiply, divide, add) for direction in (DOWN, UP))
+
+
+def stored_part(block):
+    return block[:HEADER_PART if word(block, 0) == HEADER else CONTAMINANT_PART]
 
 
 class Call(NamedTuple):
@@ -35,7 +39,7 @@ class Call(NamedTuple):
 
     def frame(self):
         head = struct.pack("<3I", self.call, self.argument, self.count)
-        return head + b"".join(block[:PART] for block in self.blocks)
+        return head + b"".join(map(stored_part, self.blocks))
 
     def line(self):
         return f"{self.call}{self.back}\n"

@@ -5,20 +5,22 @@ import site_maker
 from call_frames import (AT_MOST, BUILT_IN, DECIMALS, GUIDELINE, LIST, OPERATIONS, WORKING, WRITE_CONTAMINANT, WRITE_HEADER,
                          built_in_call, contaminant_call, decimal_call, empty_call, guideline_call, header_call, list_call)
 from guideline_maker import full_case
-from guideline_records import HARD_NUMBERS, REQUIRED, just_below_power, random_case, random_decimal
+from guideline_records import HARD_NUMBERS, HOUSE_FACTORS, REQUIRED, just_below_power, random_case, random_decimal
+from house_sites import house_site
 from second.blocks import BLOCK, header_of, record_of
 from second.decimals import ZERO, Decimal
-from second.terms import CONTAMINANT_VALUES, SCENARIO_FACTORS
-from site_parts import full_site, quick_site
+from second.terms import CHEMICAL, CONTAMINANT_VALUES, RADIONUCLIDE, SCENARIO_FACTORS, SOIL, TRITIUM, WATER
+from site_parts import CLASSES, full_site, quick_site
 
 ROOMS = (0, 511, 512, 513, 1024)
 FIELD_FAULTS = (Decimal(1_000_000_000, 0), Decimal(1, 21), Decimal(1, -21), Decimal(0, 1))
 # How many sites of a family of site_maker.py are stored as lists, and how many records they may have.
 STORED_LISTS = {"missing_values": 12, "missing_factors": 8, "extreme_decimals": 12, "near_target": 30, "near_concentration": 12,
                 "exact_targets": 24, "hard_roundings": 12, "small_shares": 6, "zero_concentrations": 8, "one_side": 6,
-                "two_in_one_block": 20, "faults_in_two_blocks": 24, "id_orders": 10, "plausible_sites": 10}
+                "two_in_one_block": 20, "faults_in_two_blocks": 24, "id_orders": 10, "plausible_sites": 10, "mixed_classes": 16,
+                "without_house": 10, "tritium_in_soil": 6, "missing_house": 16}
 MOST_RECORDS = 10
-RANDOM_FAMILIES = (*STORED_LISTS, "one_fault", "many_blocks", "random_sites")
+RANDOM_FAMILIES = (*STORED_LISTS, "one_fault", "many_blocks", "mixed_in_many", "random_sites")
 
 # Operands at the ends of their range and beside powers of ten, and decimals that are no operands.
 OPERANDS = (ZERO, Decimal(100_000_000, 0), Decimal(999_999_999, 999), Decimal(100_000_001, -9), Decimal(333_333_334, 3),
@@ -54,44 +56,65 @@ def lists_by_length(source):
 
 
 def changed_record(record, number, previous_id):
-    """The record with what refusal 4, 7 or 8 asks for."""
+    """The record with what refusal 4, 7, 8 or 12 asks for; 12 where tritium cannot be."""
     if number == 7:
         return {**record, "id": previous_id}
     if number == 8:
         return {**record, **dict.fromkeys(CONTAMINANT_VALUES, ZERO)}
-    return {**record, "RfDi": Decimal(0, 1)}
+    return {**record, "class": TRITIUM} if number == 12 else {**record, "RfDi": Decimal(0, 1)}
+
+
+def with_changes(site, place, numbers):
+    """The list call on the site whose record at this place, from 0, has what each of these refusals asks for, in any order but 4 last."""
+    records = list(site.records)
+    for number in sorted(numbers, reverse=True):
+        records[place] = changed_record(records[place], number, records[place - 1]["id"])
+    return list_call(site.medium, site.scenario, records)
 
 
 def lists_with_faults(source):
-    """Each refusal of a record in each place of a list of four and in the last of 120; those of the scenario; 4, 7, 8 at once."""
-    site = full_site(source, 4)
-    ids = [record["id"] for record in site.records]
-    for place, number in itertools.product(range(4), (4, 7, 8)):
+    """Each refusal of a record in each place of a list of four and in the last of 120; 4, 7, 12, 8 at once in each combination."""
+    soil, after_chemicals = full_site(source, 4, SOIL), house_site(source, [CHEMICAL] * 4)
+    for place, number in itertools.product(range(4), (4, 7, 12, 8)):
         if place > 0 or number != 7:
-            records = list(site.records)
-            records[place] = changed_record(records[place], number, ids[place - 1])
-            yield list_call(site.medium, site.scenario, records)
-    for numbers in ((4, 7), (4, 8), (7, 8), (4, 7, 8)):
-        records = list(site.records)
-        for number in numbers:
-            records[2] = changed_record(records[2], number, ids[1])
-        yield list_call(site.medium, site.scenario, records)
-    long = quick_site(source, 120)
-    long.records[-1] = changed_record(long.records[-1], 7, long.records[-2]["id"])
-    yield list_call(long.medium, long.scenario, long.records)
+            yield with_changes(soil, place, [number])
+    for site, size in itertools.product((soil, after_chemicals), (2, 3, 4)):
+        for numbers in itertools.combinations((4, 7, 12, 8), size):
+            yield with_changes(site, 2, numbers)
+    long, longer = quick_site(source, 120), house_site(source, [CHEMICAL] + [RADIONUCLIDE] * 119)
+    yield with_changes(long, 119, [7])
+    yield with_changes(longer, 119, [12])
+
+
+def lists_by_class(source):
+    """Every list of three classes in water with a house; every list of two where L, W or both are zero, and in soil."""
+    for classes in itertools.product(CLASSES, repeat=3):
+        site = house_site(source, classes)
+        yield list_call(site.medium, site.scenario, site.records)
+    houses = [(WATER, names) for names in (("L",), ("W",), HOUSE_FACTORS)] + [(SOIL, ()), (SOIL, HOUSE_FACTORS)]
+    for (medium, names), classes in itertools.product(houses, itertools.product(CLASSES, repeat=2)):
+        site = house_site(source, classes, medium)
+        yield list_call(medium, {**site.scenario, **dict.fromkeys(names, ZERO)}, site.records)
+
+
+def lists_with_fields(source):
+    """Refusals 4 and 6 in each decimal and word of a list."""
+    site = full_site(source, 4)
     for name in SCENARIO_FACTORS:
         yield list_call(site.medium, {**site.scenario, name: FIELD_FAULTS[len(name) % 4]}, site.records[:1])
     for name in REQUIRED:
         yield list_call(site.medium, {**site.scenario, name: ZERO}, site.records[:1])
     for name in CONTAMINANT_VALUES:
         yield list_call(site.medium, site.scenario, [site.records[0], {**site.records[1], name: FIELD_FAULTS[len(name) % 4]}])
-    for word, number in itertools.product(("class", "id"), (0, 3, 2**32 - 1)):
+    for word, number in itertools.product(("class", "id"), (0, 3, 4, 2**32 - 1)):
         yield list_call(site.medium, site.scenario, [{**site.records[0], word: number}])
 
 
 def stored_lists(source, seed):
     yield from lists_by_length(source)
     yield from lists_with_faults(source)
+    yield from lists_by_class(source)
+    yield from lists_with_fields(source)
     for name, number in STORED_LISTS.items():
         short = (content for content in family_lists(name, seed) if len(content) <= BLOCK * (MOST_RECORDS + 1))
         yield from map(list_of_site, itertools.islice(short, number))
@@ -100,7 +123,7 @@ def stored_lists(source, seed):
 def stored_writers():
     """Every room; each refusal alone, and two at once; counts and places beside the ends of their rule."""
     case = full_case(1, 2)
-    numbers = (0, 1, 2, 119, 120, 121, 257, 2**32 - 1)
+    numbers = (0, 1, 2, 3, 4, 119, 120, 121, 257, 2**32 - 1)
     for room in ROOMS:
         for count, scenario in ((3, case.scenario), (0, case.scenario), (3, {**case.scenario, "ED": ZERO})):
             yield header_call(room, 1, count, scenario)

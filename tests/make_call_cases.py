@@ -14,8 +14,8 @@ from guideline_maker import all_cases
 
 FOLDER = pathlib.Path(__file__).parent.parent / "crates" / "call_cases"
 SEED = 20261116
-# The refusals that each call can send back, of the ten: 1 to 8, 10 and 11. The number 9 is not used.
-REFUSALS = {1: {0, 4, 6, 8}, 2: {0, 1, 4, 6, 7, 8}, 3: {0, 4, 6, 10}, 4: {0, 4, 10}, 5: {0, 11}}
+# The refusals that each call can send back, of the eleven: 1 to 8 and 10 to 12. The number 9 is not used.
+REFUSALS = {1: {0, 4, 6, 8, 12}, 2: {0, 1, 4, 6, 7, 8, 12}, 3: {0, 4, 6, 10}, 4: {0, 4, 10}, 5: {0, 11}}
 
 
 def refusals_of(calls):
