@@ -9,7 +9,7 @@ import itertools
 import random
 import sys
 
-from guideline_records import HOUSE_FACTORS, Case, random_case, random_classes, random_valid_case
+from guideline_records import HOUSE_FACTORS, Case, random_case, random_classes, random_decimal, random_valid_case
 from second import steps
 from second.decimals import DOWN, UP, ZERO, Decimal, add, divide, keeps_input_rule, multiply, working_form
 from second.guideline import guideline
@@ -96,11 +96,17 @@ def extreme_wrong():
 
 
 def random_list(source):
-    """A case whose scenario and medium all records share, and 1 to 120 records in the order of their ids."""
+    """A case whose scenario and medium all records share, and 1 to 120 records in the order of their ids.
+
+    In half of the lists SFo and IR are known, so that each record has a pathway.
+    """
     classes = random_classes(source)
     first = random_valid_case(source, classes[-1:])
     count = source.choice((1, 1, 2, 3, 10, 120))
     records = [(random_case if source.randrange(40) == 0 else random_valid_case)(source, classes).record for _ in range(count)]
+    if source.randrange(2):
+        first.scenario["IR"] = random_decimal(source)
+        records = [{**record, "SFo": random_decimal(source)} for record in records]
     for number, record in enumerate(records, 1):
         record["id"] = record["id"] and number * 5
         one = guideline(first.scenario, first.medium, record)

@@ -114,7 +114,7 @@ def random_case(random, classes=(CHEMICAL, RADIONUCLIDE, TRITIUM)):
     if random.randrange(5):
         return case
     for _ in range(random.randint(1, 3)):
-        name = random.choice(SCENARIO_FACTORS + CONTAMINANT_VALUES + REQUIRED + HOUSE_FACTORS + ("medium", "class", "id"))
+        name = random.choice(SCENARIO_FACTORS + CONTAMINANT_VALUES + REQUIRED + 3 * HOUSE_FACTORS + 2 * ("medium", "class") + ("id",))
         if name == "medium":
             change = random.choice((0, SOIL, 3, 2**32 - 1))
         elif name == "class":
