@@ -65,7 +65,10 @@ def changed_record(record, number, previous_id):
 
 
 def with_changes(site, place, numbers):
-    """The list call on the site whose record at this place, from 0, has what each of these refusals asks for, in any order but 4 last."""
+    """The list call on the site whose record at this place, from 0, has what each of these refusals asks for.
+
+    From 12 down, since 8 makes every value zero and 4 then breaks one.
+    """
     records = list(site.records)
     for number in sorted(numbers, reverse=True):
         records[place] = changed_record(records[place], number, records[place - 1]["id"])

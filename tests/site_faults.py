@@ -130,7 +130,7 @@ def pathway_faults(medium, klass):
 
 
 def house_faults(klass):
-    """Refusal 12 by a class that no record can have there."""
+    """Refusal 12, by the class that no record can have there."""
     yield Fault(HOUSE, f"class {klass} there", put_word(8, klass))
 
 
@@ -141,8 +141,8 @@ def header_faults(count):
     yield from factor_faults()
 
 
-def contaminant_faults(place, medium, klass, previous_id, wrong_class):
-    """The first contaminant has none before it: previous_id None. The class that it cannot have there: None where each is possible.
+def contaminant_faults(place, medium, klass, previous_id, impossible_class):
+    """The first contaminant has none before it: previous_id None. Where each class is possible there impossible_class is None.
 
     A fault of that class comes last, so that every other one has the same number in each site.
     """
@@ -152,8 +152,8 @@ def contaminant_faults(place, medium, klass, previous_id, wrong_class):
     if previous_id is not None:
         yield from order_faults(previous_id)
     yield from pathway_faults(medium, klass)
-    if wrong_class is not None:
-        yield from house_faults(wrong_class)
+    if impossible_class is not None:
+        yield from house_faults(impossible_class)
 
 
 def damaged(block, faults):

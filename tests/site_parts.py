@@ -62,9 +62,9 @@ class Site:
             return list(header_faults(len(self.records)))
         record = self.records[place - 1]
         previous_id = self.records[place - 2]["id"] if place > 1 else None
-        return list(contaminant_faults(place, self.medium, record["class"], previous_id, self.class_without_house(place)))
+        return list(contaminant_faults(place, self.medium, record["class"], previous_id, self.impossible_class(place)))
 
-    def class_without_house(self, place):
+    def impossible_class(self, place):
         """The class that no record at this place can have beside the earlier ones (refusal 12), None where each is possible.
 
         Tritium is not possible in soil, where L or W is zero, and after a chemical; a chemical is not after tritium.
