@@ -15,8 +15,8 @@ use Rattle.words.proofs.Written.{part_over}
 use Rattle.inputs.specs.declared.Contaminant.{Contaminant}
 use Rattle.inputs.specs.Inputs.{contaminant_decimals, contaminant_places, contaminant_of}
 use Rattle.inputs.specs.Valid.{all_valid}
-use Rattle.inputs.specs.Rules.{one_or_two, contaminant_fits}
-use Rattle.inputs.proofs.Tests.{and_split, contaminant_of_lem}
+use Rattle.inputs.specs.Rules.{one_to, most_class, contaminant_fits}
+use Rattle.inputs.proofs.Tests.{and_split, one_to_lem, contaminant_of_lem}
 use Rattle.fields.specs.Fields.{decimals_at}
 use Rattle.fields.proofs.ReadBack.{all_fit}
 use Rattle.block_rules.specs.Rules.{in_file}
@@ -24,7 +24,7 @@ use Rattle.block_rules.specs.Pieces.{contaminant_pieces, unused_bytes}
 use Rattle.block_rules.specs.Reading.{contaminant_at, contaminant_unused, sound_at, contaminant_read}
 use Rattle.outcome.proofs.Tests.{passed}
 use Rattle.std.specs.Prelude.{Result, Ok, Err, ⊤}
-use Rattle.block_rules.proofs.Rules.{in_file_lem, at_most_two}
+use Rattle.block_rules.proofs.Rules.{in_file_lem}
 use Rattle.block_rules.specs.Layouts.{unused_of, contaminant_block}
 use Rattle.block_rules.specs.Answers.{contaminant_fit, contaminant_refusal, left_by, contaminant_left}
 use Rattle.block_rules.proofs.ReadBack.{zeros_long, kind_back, first_back, second_back, decimals_back, block_length, sound_back, record_unused_back}
@@ -49,11 +49,11 @@ module _ (place previous : ℕ) (r : Contaminant) (fit : contaminant_fit place r
   unfolding contaminant_fit
   valid = (and_split (in_file place) (contaminant_fits r) fit).1
 
-  class_good : one_or_two r.class ≡ true
-  class_good = (and_split (one_or_two r.class) (not (eqb r.id 0) && all_valid (contaminant_decimals r)) valid).0
+  class_good : one_to most_class r.class ≡ true
+  class_good = (and_split (one_to most_class r.class) (not (eqb r.id 0) && all_valid (contaminant_decimals r)) valid).0
 
   decimals_good : all_valid (contaminant_decimals r) ≡ true
-  decimals_good = (and_split (not (eqb r.id 0)) (all_valid (contaminant_decimals r)) (and_split (one_or_two r.class) (not (eqb r.id 0) && all_valid (contaminant_decimals r)) valid).1).1
+  decimals_good = (and_split (not (eqb r.id 0)) (all_valid (contaminant_decimals r)) (and_split (one_to most_class r.class) (not (eqb r.id 0) && all_valid (contaminant_decimals r)) valid).1).1
 
   read_decimals : decimals_at cb 16 contaminant_places ≡ contaminant_decimals r
   unfolding contaminant_block
@@ -61,7 +61,7 @@ module _ (place previous : ℕ) (r : Contaminant) (fit : contaminant_fit place r
 
   read_class : word_at cb 8 ≡ r.class
   unfolding contaminant_block
-  read_class = first_back 2 place r.class r.id (contaminant_decimals r) gap (omega (arith, at_most_two r.class class_good))
+  read_class = first_back 2 place r.class r.id (contaminant_decimals r) gap (omega (arith, (one_to_lem most_class r.class class_good).1))
 
   read_id : word_at cb 12 ≡ r.id
   unfolding contaminant_block

@@ -10,7 +10,7 @@ use Rattle.fields.specs.Fields.{decimals_at, fields_ok, unused_zero}
 use Rattle.fields.proofs.Fields.{fields_split}
 use Rattle.inputs.specs.Inputs.{exposure_of, contact_of, targets_of, toxicity_of, transfer_of, scenario_of, contaminant_of, scenario_decimals, contaminant_decimals, scenario_places, contaminant_places}
 use Rattle.inputs.specs.Valid.{all_valid}
-use Rattle.inputs.specs.Rules.{one_or_two, scenario_fits, contaminant_fits}
+use Rattle.inputs.specs.Rules.{one_to, most_medium, most_class, scenario_fits, contaminant_fits}
 use Rattle.block_rules.specs.Pieces.{Word, Decimals, Unused, header_pieces, contaminant_pieces, unused_bytes, unused_in}
 use Rattle.block_rules.specs.Reading.{scenario_at, header_unused, contaminant_at, contaminant_unused}
 
@@ -37,17 +37,17 @@ record_fields n k w b =
     ∙ ap (λ (x : Bool). w && (x && z)) (sym (fields_split b 16 n))
 
 pub header_fields : (b : List ℕ) → scenario_fits (scenario_at b 16) (word_at b 8) && header_unused b 8
-    ≡ one_or_two (word_at b 8) && (fields_ok b 16 scenario_places && zeros b (16 + 8 * scenario_places) (unused_bytes header_pieces))
+    ≡ one_to most_medium (word_at b 8) && (fields_ok b 16 scenario_places && zeros b (16 + 8 * scenario_places) (unused_bytes header_pieces))
 unfolding header_unused
 header_fields b =
-    ap (λ (l : List Decimal). (one_or_two (word_at b 8) && all_valid l) && header_unused b 8) (scenario_list b 16)
-    ∙ record_fields scenario_places (unused_bytes header_pieces) (one_or_two (word_at b 8)) b
+    ap (λ (l : List Decimal). (one_to most_medium (word_at b 8) && all_valid l) && header_unused b 8) (scenario_list b 16)
+    ∙ record_fields scenario_places (unused_bytes header_pieces) (one_to most_medium (word_at b 8)) b
 
 pub contaminant_fields : (b : List ℕ) → contaminant_fits (contaminant_at b 8) && contaminant_unused b 8
-    ≡ (one_or_two (word_at b 8) && not (eqb (word_at b 12) 0)) && (fields_ok b 16 contaminant_places && zeros b (16 + 8 * contaminant_places) (unused_bytes contaminant_pieces))
+    ≡ (one_to most_class (word_at b 8) && not (eqb (word_at b 12) 0)) && (fields_ok b 16 contaminant_places && zeros b (16 + 8 * contaminant_places) (unused_bytes contaminant_pieces))
 unfolding contaminant_unused contaminant_at contaminant_of
 contaminant_fields b =
-    let class = one_or_two (word_at b 8) in
+    let class = one_to most_class (word_at b 8) in
     let id = not (eqb (word_at b 12) 0) in
     ap (λ (l : List Decimal). (class && (id && all_valid l)) && contaminant_unused b 8) (contaminant_list b 8)
     ∙ ap (λ (x : Bool). x && contaminant_unused b 8) (sym (and_assoc class id (all_valid (decimals_at b 16 contaminant_places))))

@@ -16,8 +16,8 @@ use Rattle.decimal.specs.declared.Decimal.{Decimal}
 use Rattle.inputs.specs.declared.Scenario.{Scenario}
 use Rattle.inputs.specs.Inputs.{scenario_decimals, scenario_places, scenario_of}
 use Rattle.inputs.specs.Valid.{all_valid}
-use Rattle.inputs.specs.Rules.{one_or_two, scenario_fits, lacks_factor}
-use Rattle.inputs.proofs.Tests.{and_split, scenario_of_lem}
+use Rattle.inputs.specs.Rules.{one_to, most_medium, scenario_fits, lacks_factor}
+use Rattle.inputs.proofs.Tests.{and_split, one_to_lem, scenario_of_lem}
 use Rattle.fields.specs.Fields.{decimals_at}
 use Rattle.fields.proofs.ReadBack.{all_fit}
 use Rattle.block_rules.specs.declared.Header.{Header}
@@ -26,7 +26,7 @@ use Rattle.block_rules.specs.Pieces.{header_pieces, unused_bytes}
 use Rattle.block_rules.specs.Reading.{scenario_at, header_at, header_unused, sound_at, header_read}
 use Rattle.outcome.proofs.Tests.{passed}
 use Rattle.std.specs.Prelude.{Result, Ok, ⊤}
-use Rattle.block_rules.proofs.Rules.{in_file_lem, at_most_two}
+use Rattle.block_rules.proofs.Rules.{in_file_lem}
 use Rattle.block_rules.specs.Layouts.{unused_of, header_block}
 use Rattle.block_rules.specs.Answers.{header_fit, header_refusal, left_by, header_left}
 use Rattle.block_rules.proofs.ReadBack.{zeros_long, kind_back, first_back, second_back, decimals_back, block_length, sound_back, record_unused_back}
@@ -57,11 +57,11 @@ module _ (h : Header) (fit : header_fit h ≡ true) (known : lacks_factor h.scen
   unfolding header_fit
   valid = (and_split (in_file h.count) (scenario_fits h.scenario h.medium) fit).1
 
-  medium_good : one_or_two h.medium ≡ true
-  medium_good = (and_split (one_or_two h.medium) (all_valid ds) valid).0
+  medium_good : one_to most_medium h.medium ≡ true
+  medium_good = (and_split (one_to most_medium h.medium) (all_valid ds) valid).0
 
   decimals_good : all_valid ds ≡ true
-  decimals_good = (and_split (one_or_two h.medium) (all_valid ds) valid).1
+  decimals_good = (and_split (one_to most_medium h.medium) (all_valid ds) valid).1
 
   read_decimals : decimals_at hb 16 scenario_places ≡ ds
   unfolding header_block
@@ -78,7 +78,7 @@ module _ (h : Header) (fit : header_fit h ≡ true) (known : lacks_factor h.scen
   read_header_lem : header_at hb 8 ≡ h
   unfolding header_at header_block
   read_header_lem = λ i. record {
-    medium = first_back 1 0 h.medium h.count ds gap (omega (arith, at_most_two h.medium medium_good)) i;
+    medium = first_back 1 0 h.medium h.count ds gap (omega (arith, (one_to_lem most_medium h.medium medium_good).1)) i;
     count = read_count i;
     scenario = read_scenario i;
   }

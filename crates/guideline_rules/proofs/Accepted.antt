@@ -7,11 +7,11 @@ use Rattle.inputs.specs.declared.Scenario.{Scenario}
 use Rattle.inputs.specs.declared.Contaminant.{Contaminant}
 use Rattle.inputs.specs.Inputs.{scenario_decimals, formula_decimals, contaminant_decimals}
 use Rattle.inputs.specs.Valid.{all_valid, valid_of}
-use Rattle.inputs.specs.Rules.{OneOrTwo, one_or_two, scenario_fits, lacks_factor, scenario_refusal, contaminant_fits}
+use Rattle.inputs.specs.Rules.{OneTo, one_to, most_medium, most_class, scenario_fits, lacks_factor, scenario_refusal, contaminant_fits}
 use mathlib.Core.List.{[], ◌∷◌, ◌++◌}
 use borrow.Author.Tests.{not-true, not-false}
 use Rattle.rounding.specs.declared.Direction.{Direction}
-use Rattle.inputs.proofs.Tests.{and_split, valid_append, contaminant_parts, one_or_two_lem}
+use Rattle.inputs.proofs.Tests.{and_split, valid_append, contaminant_parts, one_to_lem}
 use Rattle.formulas.specs.Side.{Side, Risk, Hazard}
 use Rattle.formulas.specs.Target.{target_of}
 use Rattle.formulas.specs.Term.{constants, inputs_of, values_for}
@@ -27,8 +27,8 @@ use Rattle.std.specs.Prelude.{Ok}
 pub record Accepted (s : Scenario) (medium : ℕ) (r : Contaminant) : Type 0 where
   pub scenario : all_valid (scenario_decimals s) ≡ true
   pub contaminant : all_valid (contaminant_decimals r) ≡ true
-  pub media : OneOrTwo medium
-  pub class : OneOrTwo r.class
+  pub media : OneTo most_medium medium
+  pub class : OneTo most_class r.class
   pub risk_target : eqb s.targets.tr.m 0 ≡ false
   pub hazard_target : eqb s.targets.thi.m 0 ≡ false
 
@@ -62,16 +62,16 @@ targets a b c d e g h =
 
 pub accepted_inputs : (s : Scenario) (medium : ℕ) (r : Contaminant) → scenario_fits s medium ≡ true → lacks_factor s ≡ false → contaminant_fits r ≡ true → Accepted s medium r
 accepted_inputs s medium r h g k =
-    let a = and_split (one_or_two medium) _ h in
-    let b = and_split (one_or_two r.class) _ k in
+    let a = and_split (one_to most_medium medium) _ h in
+    let b = and_split (one_to most_class r.class) _ k in
     let c = and_split (not (eqb r.id 0)) _ b.1 in
     let x = s.exposure in
     let t = targets (eqb x.ef.m 0) (eqb x.ed.m 0) (eqb x.bw.m 0) (eqb x.at.m 0) (eqb s.targets.tr.m 0) (eqb s.targets.thi.m 0) g in
     record {
       scenario = a.1;
       contaminant = c.1;
-      media = one_or_two_lem medium a.0;
-      class = one_or_two_lem r.class b.0;
+      media = one_to_lem most_medium medium a.0;
+      class = one_to_lem most_class r.class b.0;
       risk_target = t.0;
       hazard_target = t.1;
     }

@@ -1,13 +1,12 @@
 -- Tests joined by `&&`, and what a valid decimal is. Assumes nothing.
 use mathlib.Core.Path.{◌≡◌, refl, sym, ap, ◌∙◌}
-use mathlib.Core.Logic.{inl, inr}
-use mathlib.Core.Bool.{Bool, true, false, ◌&&◌, ◌||◌, and_assoc, and-eq-true_iff}
+use mathlib.Core.Bool.{Bool, true, ◌&&◌, and_assoc, and-eq-true_iff}
 use mathlib.Core.List.{List, [], ◌∷◌, ◌++◌}
 use Prim.Native.Nat.{ℕ, zero, suc, ◌≤◌, ◌<◌}
 use native.Mathlib.Omega.{arith}
-use lib.Dec.{eqb, leb}
+use lib.Dec.{leb}
 use lib.ListN.{get_or, length}
-use borrow.Author.Tests.{leb-true, eqb-true}
+use borrow.Author.Tests.{leb-true}
 use Rattle.decimal.specs.declared.Decimal.{Decimal}
 use Rattle.decimal.specs.Exponent.{raised}
 use Rattle.decimal.specs.Decimal.{zero_of}
@@ -16,7 +15,7 @@ use Rattle.inputs.specs.declared.Contaminant.{Contaminant}
 use Rattle.inputs.specs.Inputs.{scenario_decimals, formula_decimals, contaminant_decimals, scenario_places, contaminant_places, other_decimals, exposure_decimals, contact_decimals, target_decimals}
 use Rattle.inputs.specs.Inputs.{exposure_of, contact_of, targets_of, toxicity_of, transfer_of, scenario_of, contaminant_of}
 use Rattle.inputs.specs.Valid.{valid_of, all_valid}
-use Rattle.inputs.specs.Rules.{one_or_two, OneOrTwo}
+use Rattle.inputs.specs.Rules.{one_to, OneTo}
 
 pub and_split : (a b : Bool) → a && b ≡ true → (a ≡ true) × (b ≡ true)
 and_split a b h = (and-eq-true_iff a b).0 h
@@ -67,21 +66,8 @@ valid_append [] y h k = k
 valid_append (d ∷ ds) y h k = let a = and_split (valid_of d) (all_valid ds) h in rw a.0 (valid_append ds y a.1 k)
 
 -- ---- the conditions that were passed
-pub one_or_two_lem : (n : ℕ) → one_or_two n ≡ true → OneOrTwo n
-one_or_two_lem n = cases (eqb n 1) (eqb n 2) refl refl
-  where
-    cases : (b c : Bool) → eqb n 1 ≡ b → eqb n 2 ≡ c → b || c ≡ true → OneOrTwo n
-    cases true c e g h = inl (eqb-true n 1 e)
-    cases false true e g h = inr (eqb-true n 2 g)
-    cases false false e g h = absurd (let z : ◌≡◌ {A = ℕ} 0 1 = cc in omega arith)
-
-pub other_one : {n : ℕ} → OneOrTwo n → (n ≡ 1 → ⊥) → n ≡ 2
-other_one (inl e) h = absurd (h e)
-other_one (inr e) h = e
-
-pub other_two : {n : ℕ} → OneOrTwo n → (n ≡ 2 → ⊥) → n ≡ 1
-other_two (inl e) h = e
-other_two (inr e) h = absurd (h e)
+pub one_to_lem : (most n : ℕ) → one_to most n ≡ true → OneTo most n
+one_to_lem most n h = let a = and_split (leb 1 n) (leb n most) h in (leb-true 1 n a.0, leb-true n most a.1)
 
 -- ---- a record comes back out of the list of its decimals
 pub scenario_of_lem : (s : Scenario) → scenario_of (scenario_decimals s) ≡ s

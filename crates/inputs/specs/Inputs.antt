@@ -2,12 +2,12 @@
 use Rattle.std.specs.Prelude.{List, [], ◌∷◌, ◌++◌, ℕ, get_or, drop}
 use Rattle.decimal.specs.declared.Decimal.{Decimal}
 use Rattle.decimal.specs.Decimal.{zero_of}
-use Rattle.inputs.specs.declared.Exposure.{Exposure}
-use Rattle.inputs.specs.declared.Contact.{Contact}
-use Rattle.inputs.specs.declared.Targets.{Targets}
+use Rattle.inputs.specs.declared.groups.Exposure.{Exposure}
+use Rattle.inputs.specs.declared.groups.Contact.{Contact}
+use Rattle.inputs.specs.declared.groups.Targets.{Targets}
 use Rattle.inputs.specs.declared.Scenario.{Scenario}
-use Rattle.inputs.specs.declared.Toxicity.{Toxicity}
-use Rattle.inputs.specs.declared.Transfer.{Transfer}
+use Rattle.inputs.specs.declared.groups.Toxicity.{Toxicity}
+use Rattle.inputs.specs.declared.groups.Transfer.{Transfer}
 use Rattle.inputs.specs.declared.Contaminant.{Contaminant}
 
 -- ---- the groups, of decimals or of the numbers that stand for them

@@ -1,5 +1,5 @@
 -- The rules of the specification that a scenario and a contaminant have to keep, wherever they come from.
-use Rattle.std.specs.Prelude.{◌≡◌, ◌⊎◌, Bool, true, false, not, ◌&&◌, ◌||◌, List, [], ◌∷◌, ℕ, eqb, Result, ⊤}
+use Rattle.std.specs.Prelude.{◌≡◌, Bool, true, false, not, ◌&&◌, List, [], ◌∷◌, ℕ, ◌≤◌, eqb, leb, Result, ⊤}
 use Rattle.outcome.specs.declared.Refusal.{Refusal}
 use Rattle.outcome.specs.declared.Refusal.TheVariants.{Field, Factor}
 use Rattle.outcome.specs.Outcome.{Test, test, refused_by}
@@ -12,12 +12,23 @@ use Rattle.inputs.specs.Valid.{all_valid}
 abbrev pub most_contaminants : ℕ
 most_contaminants = 120
 
--- 4: a decimal or the medium breaks its rule
-abbrev pub one_or_two : ℕ → Bool
-one_or_two n = eqb n 1 || eqb n 2
+-- the media are 1 soil and 2 water, the classes 1 chemical and 2 radionuclide
+abbrev pub most_medium : ℕ
+most_medium = 2
 
+abbrev pub most_class : ℕ
+most_class = 2
+
+-- a number from 1 to so many
+abbrev pub one_to : ℕ → ℕ → Bool
+one_to most n = leb 1 n && leb n most
+
+abbrev pub OneTo : ℕ → ℕ → Type 0
+OneTo most n = (1 ≤ n) × (n ≤ most)
+
+-- 4: a decimal or the medium breaks its rule
 abbrev pub scenario_fits : Scenario → ℕ → Bool
-scenario_fits s medium = one_or_two medium && all_valid (scenario_decimals s)
+scenario_fits s medium = one_to most_medium medium && all_valid (scenario_decimals s)
 
 -- 6: EF, ED, BW, AT, TR or THI zero
 abbrev pub lacks_factor : Scenario → Bool
@@ -34,11 +45,7 @@ scenario_refusal s medium = refused_by (scenario_tests s medium)
 
 -- 4: a decimal, the class or the id breaks its rule
 abbrev pub contaminant_fits : Contaminant → Bool
-contaminant_fits r = one_or_two r.class && (not (eqb r.id 0) && all_valid (contaminant_decimals r))
-
--- a medium or a class
-abbrev pub OneOrTwo : ℕ → Type 0
-OneOrTwo n = (n ≡ 1) ⊎ (n ≡ 2)
+contaminant_fits r = one_to most_class r.class && (not (eqb r.id 0) && all_valid (contaminant_decimals r))
 
 -- inputs that passed conditions 4 and 6
 pub record Checked (s : Scenario) (medium : ℕ) (r : Contaminant) : Type 0 where

@@ -1,7 +1,7 @@
 // The media and the classes of contaminants.
 ghost use Rattle.std.specs.Prelude.{◌≡◌};
 ghost use Rattle.inputs.specs.Kinds.{medium_number, class_number};
-ghost use Rattle.inputs.specs.Rules.{OneOrTwo};
+ghost use Rattle.inputs.specs.Rules.{OneTo, most_medium, most_class};
 
 // What a header's medium stands for: 1 soil, 2 water.
 #[derive(Clone, Copy)]
@@ -20,7 +20,7 @@ pub enum Class {
 impl Medium {
     // The medium of a number that keeps its rule.
     pub fn of(n: u32) -> Medium
-        requires { OneOrTwo n }
+        requires { OneTo most_medium n }
         ensures { medium_number result ≡ n }
     {
         if n == 1 {
@@ -33,7 +33,7 @@ impl Medium {
 impl Class {
     // The class of a number that keeps its rule.
     pub fn of(n: u32) -> Class
-        requires { OneOrTwo n }
+        requires { OneTo most_class n }
         ensures { class_number result ≡ n }
     {
         if n == 2 {

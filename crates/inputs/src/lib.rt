@@ -1,15 +1,17 @@
 // A land-use scenario and a contaminant record, as a file or a caller gives them.
 #![tactic(auto)]
 
+mod groups;
 mod kind;
 
 ghost use Rattle.std.specs.Prelude.{◌≡◌};
 ghost use Rattle.inputs.specs.BuiltIn.{built_in_of};
-ghost use Rattle.inputs.specs.Inputs.{exposure_decimals, contact_decimals, target_decimals, toxicity_decimals, transfer_decimals, scenario_decimals, contaminant_decimals};
-ghost use Rattle.inputs.specs.Rules.{one_or_two, scenario_fits, contaminant_fits, lacks_factor, scenario_refusal};
+ghost use Rattle.inputs.specs.Inputs.{scenario_decimals, contaminant_decimals};
+ghost use Rattle.inputs.specs.Rules.{one_to, scenario_fits, contaminant_fits, lacks_factor, scenario_refusal};
 ghost use Rattle.inputs.specs.Valid.{valid_of, all_valid};
 
 use decimal::Decimal;
+pub use groups::{Contact, Exposure, Targets, Toxicity, Transfer};
 pub use kind::{Class, Medium};
 use outcome::{Refusal, Refused};
 use rounding::BIAS;
@@ -17,40 +19,15 @@ use rounding::BIAS;
 // A list or a site has 1 to 120 contaminants.
 pub const MOST_CONTAMINANTS: u32 = 120;
 
+// The greatest number of a medium, and of a class.
+const MOST_MEDIUM: u32 = 2;
+
+const MOST_CLASS: u32 = 2;
+
 // The exponents -20 and 20 of a file or record.
 const LEAST: u64 = BIAS - 20;
 
 const GREATEST: u64 = BIAS + 20;
-
-// Zero means not known, or not part of this scenario, in every decimal below.
-// How often and how long, and of whom: exposure frequency, days per year; exposure duration, years; body weight, kg;
-// averaging time, years.
-#[derive(Clone, Copy)]
-pub struct Exposure<T> {
-    pub ef: T,
-    pub ed: T,
-    pub bw: T,
-    pub at: T,
-}
-
-// How much meets the body: ingestion, mg of soil or litres of water a day; inhalation, m³ a day; particulate emission factor,
-// m³/kg; hours a day, outdoors or with skin in water; dose reduction factor; skin, cm².
-#[derive(Clone, Copy)]
-pub struct Contact<T> {
-    pub ir: T,
-    pub ira: T,
-    pub pef: T,
-    pub et: T,
-    pub rf: T,
-    pub sa: T,
-}
-
-// Target risk and target hazard.
-#[derive(Clone, Copy)]
-pub struct Targets<T> {
-    pub tr: T,
-    pub thi: T,
-}
 
 // A land-use scenario.
 #[derive(Clone, Copy)]
@@ -58,23 +35,6 @@ pub struct Scenario {
     pub exposure: Exposure<Decimal>,
     pub contact: Contact<Decimal>,
     pub targets: Targets<Decimal>,
-}
-
-// Slope factors, oral, inhaled and external; reference doses, oral and inhaled.
-#[derive(Clone, Copy)]
-pub struct Toxicity<T> {
-    pub sfo: T,
-    pub sfi: T,
-    pub sfx: T,
-    pub rfdo: T,
-    pub rfdi: T,
-}
-
-// Volatilization factor, m³/kg, and skin permeability, cm/hr.
-#[derive(Clone, Copy)]
-pub struct Transfer<T> {
-    pub vf: T,
-    pub pc: T,
 }
 
 // A contaminant: its class (1 chemical, 2 radionuclide), its id, and its measured concentration C.
@@ -210,105 +170,6 @@ impl Contaminant {
     };
 }
 
-// Each group as an array, in the order of the block, and out of one.
-impl<T: Copy> From<[T; 4]> for Exposure<T> {
-    ghost from_gives = { λ l x. exposure_decimals x ≡ l };
-
-    fn from(values: [T; 4]) -> Exposure<T> {
-        let [ef, ed, bw, at] = values;
-        Exposure { ef, ed, bw, at }
-    }
-}
-
-impl<T: Copy> From<Exposure<T>> for [T; 4] {
-    ghost from_gives = { λ x l. l ≡ exposure_decimals x };
-
-    fn from(x: Exposure<T>) -> [T; 4] {
-        [x.ef, x.ed, x.bw, x.at]
-    }
-}
-
-impl<T: Copy> From<[T; 6]> for Contact<T> {
-    ghost from_gives = { λ l x. contact_decimals x ≡ l };
-
-    fn from(values: [T; 6]) -> Contact<T> {
-        let [ir, ira, pef, et, rf, sa] = values;
-        Contact {
-            ir,
-            ira,
-            pef,
-            et,
-            rf,
-            sa,
-        }
-    }
-}
-
-impl<T: Copy> From<Contact<T>> for [T; 6] {
-    ghost from_gives = { λ x l. l ≡ contact_decimals x };
-
-    fn from(x: Contact<T>) -> [T; 6] {
-        [x.ir, x.ira, x.pef, x.et, x.rf, x.sa]
-    }
-}
-
-impl<T: Copy> From<[T; 2]> for Targets<T> {
-    ghost from_gives = { λ l x. target_decimals x ≡ l };
-
-    fn from(values: [T; 2]) -> Targets<T> {
-        let [tr, thi] = values;
-        Targets { tr, thi }
-    }
-}
-
-impl<T: Copy> From<Targets<T>> for [T; 2] {
-    ghost from_gives = { λ x l. l ≡ target_decimals x };
-
-    fn from(x: Targets<T>) -> [T; 2] {
-        [x.tr, x.thi]
-    }
-}
-
-impl<T: Copy> From<[T; 5]> for Toxicity<T> {
-    ghost from_gives = { λ l x. toxicity_decimals x ≡ l };
-
-    fn from(values: [T; 5]) -> Toxicity<T> {
-        let [sfo, sfi, sfx, rfdo, rfdi] = values;
-        Toxicity {
-            sfo,
-            sfi,
-            sfx,
-            rfdo,
-            rfdi,
-        }
-    }
-}
-
-impl<T: Copy> From<Toxicity<T>> for [T; 5] {
-    ghost from_gives = { λ x l. l ≡ toxicity_decimals x };
-
-    fn from(x: Toxicity<T>) -> [T; 5] {
-        [x.sfo, x.sfi, x.sfx, x.rfdo, x.rfdi]
-    }
-}
-
-impl<T: Copy> From<[T; 2]> for Transfer<T> {
-    ghost from_gives = { λ l x. transfer_decimals x ≡ l };
-
-    fn from(values: [T; 2]) -> Transfer<T> {
-        let [vf, pc] = values;
-        Transfer { vf, pc }
-    }
-}
-
-impl<T: Copy> From<Transfer<T>> for [T; 2] {
-    ghost from_gives = { λ x l. l ≡ transfer_decimals x };
-
-    fn from(x: Transfer<T>) -> [T; 2] {
-        [x.vf, x.pc]
-    }
-}
-
 // Whether a decimal keeps the rule of a file or record.
 pub fn valid(d: Decimal) -> bool
     ensures { result ≡ valid_of d }
@@ -353,25 +214,25 @@ pub fn valid_contaminant(r: Contaminant) -> bool
     toxicity & transfer & c
 }
 
-// Whether a number is 1 or 2: a medium, or a class.
-pub fn one_or_two(n: u32) -> bool
-    ensures { result ≡ one_or_two n }
+// Whether a number is from 1 to so many: a medium, or a class.
+fn one_to(most: u32, n: u32) -> bool
+    ensures { result ≡ one_to most n }
 {
-    matches!(n, 1 | 2)
+    (1 <= n) & (n <= most)
 }
 
 // Whether the medium and the scenario's decimals keep their rules.
 pub fn scenario_fits(s: Scenario, medium: u32) -> bool
     ensures { result ≡ scenario_fits s medium }
 {
-    one_or_two(medium) & valid_scenario(s)
+    one_to(MOST_MEDIUM, medium) & valid_scenario(s)
 }
 
 // Whether the class, the id and the contaminant's decimals keep their rules.
 pub fn contaminant_fits(r: Contaminant) -> bool
     ensures { result ≡ contaminant_fits r }
 {
-    one_or_two(r.class) & (r.id != 0) & valid_contaminant(r)
+    one_to(MOST_CLASS, r.class) & (r.id != 0) & valid_contaminant(r)
 }
 
 // Whether EF, ED, BW, AT, TR or THI is zero.

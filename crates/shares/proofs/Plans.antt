@@ -6,15 +6,15 @@ use Rattle.inputs.specs.declared.Scenario.{Scenario}
 use Rattle.inputs.specs.declared.Contaminant.{Contaminant}
 use Rattle.inputs.specs.Inputs.{scenario_decimals}
 use Rattle.inputs.specs.Valid.{all_valid}
-use Rattle.inputs.specs.Rules.{one_or_two, scenario_fits, OneOrTwo}
-use Rattle.inputs.proofs.Tests.{and_split, one_or_two_lem}
+use Rattle.inputs.specs.Rules.{one_to, most_medium, scenario_fits, OneTo}
+use Rattle.inputs.proofs.Tests.{and_split, one_to_lem}
 use Rattle.shares.specs.declared.plan.Plan.{Plan}
 use Rattle.guideline_rules.proofs.Accepted.{Accepted, accepted_inputs}
 use Rattle.shares.specs.Plan.{Workable}
 
 -- ---- the scenario and the medium that passed
-pub fits_parts : (s : Scenario) (medium : ℕ) → scenario_fits s medium ≡ true → (all_valid (scenario_decimals s) ≡ true) × OneOrTwo medium
-fits_parts s medium h = let a = and_split (one_or_two medium) _ h in (a.1, one_or_two_lem medium a.0)
+pub fits_parts : (s : Scenario) (medium : ℕ) → scenario_fits s medium ≡ true → (all_valid (scenario_decimals s) ≡ true) × OneTo most_medium medium
+fits_parts s medium h = let a = and_split (one_to most_medium medium) _ h in (a.1, one_to_lem most_medium medium a.0)
 
 -- ---- the inputs of a record
 pub inputs_of_lem : {p : Plan} {r : Contaminant} → Workable p r → Accepted p.scenario p.medium r

@@ -18,8 +18,8 @@ use Rattle.outcome.specs.Outcome.{number_of}
 use Rattle.outcome.proofs.Numbers.{accepted_value}
 use Rattle.inputs.specs.declared.Scenario.{Scenario}
 use Rattle.inputs.specs.declared.Contaminant.{Contaminant}
-use Rattle.inputs.specs.Rules.{one_or_two}
-use Rattle.inputs.proofs.Tests.{and_split}
+use Rattle.inputs.specs.Rules.{one_to, most_class}
+use Rattle.inputs.proofs.Tests.{and_split, one_to_lem}
 use Rattle.formulas.specs.Side.{Side, Risk, Hazard}
 use Rattle.fields.specs.Fields.{InField}
 use Rattle.guideline_rules.specs.Answer.{Guidelines}
@@ -28,7 +28,6 @@ use Rattle.guideline_rules.proofs.Promises.{accepted_is}
 use Rattle.sum_rules.specs.Answer.{Sums}
 use Rattle.sum_rules.specs.Promise.{side_sent}
 use Rattle.block_rules.specs.Layouts.{guideline_decimals, summary_decimals}
-use Rattle.block_rules.proofs.Rules.{at_most_two}
 use Rattle.block_rules.proofs.ResultsBack.{ResultRead, result_back, SummaryRead, summary_back}
 use Rattle.site_rules.specs.Blocks.{block_at, header_of, record_at, site_records}
 use Rattle.site_rules.specs.Site.{site_answer}
@@ -103,8 +102,8 @@ module _ (site out : List ℕ) (z : number_of (site_answer site (length out)) �
         (operands_fit (guideline_decimals (guidelines_of s medium r Risk) (guidelines_of s medium r Hazard))
         (operands_append (four_of (guidelines_of s medium r Risk)) (four_of (guidelines_of s medium r Hazard)) (four Risk) (four Hazard)))
 
-    class_most : r.class ≤ 2
-    class_most = at_most_two r.class (and_split (one_or_two r.class) _ (passed.records k first last).fits).0
+    class_most : r.class ≤ most_class
+    class_most = (one_to_lem most_class r.class (and_split (one_to most_class r.class) _ (passed.records k first last).fits).0).1
 
     -- BLOCK k holds the eight decimals of the single guideline for the record at place k
     pub site_result_back : ResultRead (block_at (site_left site out) k) k (record_at site k).class (record_at site k).id

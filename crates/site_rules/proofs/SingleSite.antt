@@ -15,7 +15,7 @@ use Rattle.outcome.specs.declared.Refused.{Refused}
 use Rattle.outcome.specs.Outcome.{number_of, answered, passing}
 use Rattle.inputs.specs.declared.Scenario.{Scenario}
 use Rattle.inputs.specs.declared.Contaminant.{Contaminant}
-use Rattle.inputs.specs.Rules.{one_or_two, lacks_factor, scenario_refusal, contaminant_fits}
+use Rattle.inputs.specs.Rules.{one_to, most_class, lacks_factor, scenario_refusal, contaminant_fits}
 use Rattle.inputs.proofs.Tests.{and_split}
 use Rattle.words.specs.Words.{part_of}
 use Rattle.block_rules.specs.declared.Header.{Header}
@@ -67,7 +67,7 @@ module _ (h : Header) (r : Contaminant) (fit : header_fit h ≡ true) (known : l
   -- ---- the answer
   id_some : 0 < r.id
   id_some =
-      let a = and_split (one_or_two r.class) _ fits in
+      let a = and_split (one_to most_class r.class) _ fits in
       let b = and_split (not (eqb r.id 0)) _ a.1 in
       let n = eqb-false r.id 0 (not-true _ b.0) in
       omega (arith, n)
