@@ -8,7 +8,7 @@ use Rattle.words.specs.Words.{word_at, zeros}
 use Rattle.decimal.specs.declared.Decimal.{Decimal}
 use Rattle.fields.specs.Fields.{decimals_at, fields_ok, unused_zero}
 use Rattle.fields.proofs.Fields.{fields_split}
-use Rattle.inputs.specs.Inputs.{exposure_of, contact_of, targets_of, toxicity_of, transfer_of, scenario_of, contaminant_of, scenario_decimals, contaminant_decimals, scenario_places, contaminant_places}
+use Rattle.inputs.specs.Inputs.{exposure_of, contact_of, targets_of, house_of, toxicity_of, transfer_of, scenario_of, contaminant_of, scenario_decimals, contaminant_decimals, scenario_places, contaminant_places}
 use Rattle.inputs.specs.Valid.{all_valid}
 use Rattle.inputs.specs.Rules.{one_to, most_medium, most_class, scenario_fits, contaminant_fits}
 use Rattle.block_rules.specs.Pieces.{Word, Decimals, Unused, header_pieces, contaminant_pieces, unused_bytes, unused_in}
@@ -16,7 +16,7 @@ use Rattle.block_rules.specs.Reading.{scenario_at, header_unused, contaminant_at
 
 -- the decimals of what was read are those that stand there
 scenario_list : (s : List ℕ) (at : ℕ) → scenario_decimals (scenario_at s at) ≡ decimals_at s at scenario_places
-unfolding scenario_at scenario_of exposure_of contact_of targets_of decimals_at
+unfolding scenario_at scenario_of exposure_of contact_of targets_of house_of decimals_at
 scenario_list s at = refl
 
 contaminant_list : (s : List ℕ) (at : ℕ) → contaminant_decimals (contaminant_at s at) ≡ decimals_at s (at + 8) contaminant_places

@@ -13,7 +13,7 @@ pub data Piece : Type 0 where
 
 -- kind 1: medium, count, the scenario
 abbrev pub header_pieces : List Piece
-header_pieces = Word ∷ Word ∷ Decimals scenario_places ∷ Unused 396 ∷ []
+header_pieces = Word ∷ Word ∷ Decimals scenario_places ∷ Unused 332 ∷ []
 
 -- kind 2: class, id, the contaminant's decimals
 abbrev pub contaminant_pieces : List Piece

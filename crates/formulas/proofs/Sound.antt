@@ -12,6 +12,7 @@ use Rattle.formulas.specs.Limits.{input_range, part_roundings, part_range, worke
 use Rattle.decimal.specs.Range.{Range, ends, operand_range, quotient_range, product_range, joined_range, Covers, covers_test}
 use Rattle.decimal.proofs.Ranges.{covers}
 use Rattle.inputs.proofs.Tests.{and_split}
+use Rattle.inputs.specs.Rules.{most_class}
 use Rattle.formulas.specs.Side.{Side, Risk, Hazard}
 use Rattle.formulas.specs.Formula.{Formula, Row, table, formulas_of, is_row, row_of, pathways_of, no_pathways, derived, derived_places, none}
 
@@ -140,12 +141,13 @@ pub three_pathways : (medium class : ℕ) (side : Side) → length (pathways_of 
 three_pathways medium class side = (table_good medium class side).three
 
 -- a class that has no row has no pathway: no other class can stand for it
-pub other_class : (medium class : ℕ) (side : Side) → 2 < class → pathways_of medium class side ≡ no_pathways
+pub other_class : (medium class : ℕ) (side : Side) → most_class < class → pathways_of medium class side ≡ no_pathways
 unfolding pathways_of table
 other_class medium class side h =
     let one = ne_eqb 1 class (λ e. omega (arith, h, e)) in
     let two = ne_eqb 2 class (λ e. omega (arith, h, e)) in
-    simp (one, two, and-false)
+    let three = ne_eqb 3 class (λ e. omega (arith, h, e)) in
+    simp (one, two, three, and-false)
 
 -- no medium and class has two rows, of which the second would not count
 abbrev named : List Row → ℕ → ℕ → Bool
@@ -159,6 +161,15 @@ distinct (x ∷ xs) = not (named xs x.medium x.class) && distinct xs
 pub table_distinct : distinct table ≡ true
 unfolding table
 table_distinct = refl
+
+-- every class has a row of its own in each medium, but tritium in soil, which has no pathway
+pub table_whole : named table 1 1 && (named table 1 2 && (named table 2 1 && (named table 2 2 && named table 2 3))) ≡ true
+unfolding table
+table_whole = refl
+
+pub tritium_in_soil : (side : Side) → pathways_of 1 3 side ≡ no_pathways
+unfolding pathways_of table
+tritium_in_soil side = refl
 
 -- ---- the factors that are worked out: each the sum of at most two parts within their limits
 pub data Every (k : ℕ) (w : Range) : List (List Formula) → Type 0 where

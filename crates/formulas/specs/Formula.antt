@@ -7,10 +7,13 @@ use Rattle.formulas.specs.Side.{Side, Risk, Hazard}
 abbrev pub B : ℕ
 B = 0
 
-abbrev pub derived_places : ℕ
-derived_places = 1
+abbrev pub H : ℕ
+H = 1
 
--- constants: 1, 10^-6, 10^-3, 0.5, 0.000114 and 365
+abbrev pub derived_places : ℕ
+derived_places = 2
+
+-- constants: 1, 10^-6, 10^-3, 0.5, 0.000114, 365 and 10^3
 abbrev pub One : ℕ
 One = derived_places
 
@@ -29,8 +32,11 @@ YearsPerHour = derived_places + 4
 abbrev pub Days : ℕ
 Days = derived_places + 5
 
+abbrev pub Thousand : ℕ
+Thousand = derived_places + 6
+
 abbrev scenario_first : ℕ
-scenario_first = derived_places + 6
+scenario_first = derived_places + 7
 
 -- of the scenario, in the order of `scenario_decimals`
 abbrev pub EF : ℕ
@@ -63,7 +69,31 @@ RF = scenario_first + 8
 abbrev pub SA : ℕ
 SA = scenario_first + 9
 
--- then the targets, which no formula names
+-- then the targets, which no formula names; and the house, whose shower volume V is Vol here
+abbrev pub M : ℕ
+M = scenario_first + 12
+
+abbrev pub F : ℕ
+F = scenario_first + 13
+
+abbrev pub N : ℕ
+N = scenario_first + 14
+
+abbrev pub S : ℕ
+S = scenario_first + 15
+
+abbrev pub Vol : ℕ
+Vol = scenario_first + 16
+
+abbrev pub L : ℕ
+L = scenario_first + 17
+
+abbrev pub W : ℕ
+W = scenario_first + 18
+
+abbrev pub K : ℕ
+K = scenario_first + 19
+
 abbrev contaminant_first : ℕ
 contaminant_first = scenario_first + scenario_places
 
@@ -104,7 +134,7 @@ none = [] ÷ []
 abbrev pub no_pathways : List Formula
 no_pathways = none ∷ none ∷ none ∷ []
 
--- ---- the table: for a medium (1 soil, 2 water) and a class (1 chemical, 2 radionuclide) the three pathways of each side
+-- ---- the table: for a medium (1 soil, 2 water) and a class (1 chemical, 2 radionuclide, 3 tritium) the three pathways of each side
 pub record Row : Type 0 where
   pub medium : ℕ
   pub class : ℕ
@@ -155,6 +185,16 @@ table =
       class = 2;
       risk = ((SFo ∷ IR ∷ EF ∷ ED ∷ []) ÷ []) ∷ none ∷ none ∷ [];
       hazard = no_pathways;
+    } ∷
+    -- water, tritium
+    record {
+      medium = 2;
+      class = 3;
+      risk =
+          ((SFo ∷ IR ∷ EF ∷ ED ∷ []) ÷ []) ∷
+          ((SFi ∷ IRA ∷ M ∷ Thousandth ∷ H ∷ EF ∷ ED ∷ []) ÷ []) ∷
+          ((SFo ∷ SA ∷ K ∷ ET ∷ Thousand ∷ EF ∷ ED ∷ []) ÷ []) ∷ [];
+      hazard = no_pathways;
     } ∷ []
 
 abbrev pub formulas_of : Row → Side → List Formula
@@ -172,6 +212,8 @@ row_of (x ∷ xs) medium class side = cond (is_row x medium class) (formulas_of 
 unfoldable pub pathways_of : ℕ → ℕ → Side → List Formula
 pathways_of medium class side = row_of table medium class side
 
--- ---- the factors that are worked out, each as the formulas that are added up: B = 1/VF + 1/PEF
+-- ---- the factors that are worked out, each as the formulas that are added up: B = 1/VF + 1/PEF, H = ET + (F, N, S, V / L, W)
 unfoldable pub derived : List (List Formula)
-derived = (((One ∷ []) ÷ (VF ∷ [])) ∷ ((One ∷ []) ÷ (PEF ∷ [])) ∷ []) ∷ []
+derived =
+    (((One ∷ []) ÷ (VF ∷ [])) ∷ ((One ∷ []) ÷ (PEF ∷ [])) ∷ []) ∷
+    (((ET ∷ []) ÷ []) ∷ ((F ∷ N ∷ S ∷ Vol ∷ []) ÷ (L ∷ W ∷ [])) ∷ []) ∷ []

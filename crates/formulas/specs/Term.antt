@@ -44,11 +44,11 @@ unfoldable pub total_of : List Decimal → Direction → List Formula → Decima
 total_of vs dir fs = summed dir zero_of (map (term_of vs dir) fs)
 
 -- ---- the values that the names stand for
--- 1, 10^-6, 10^-3, 0.5, 0.000114, 365
+-- 1, 10^-6, 10^-3, 0.5, 0.000114, 365, 10^3
 abbrev pub constants : List Decimal
 constants =
     record { m = 1; e = pos 0 } ∷ (record { m = 1; e = negsuc 5 } ∷ (record { m = 1; e = negsuc 2 } ∷ (record { m = 5; e = negsuc 0 } ∷
-    (record { m = 114; e = negsuc 5 } ∷ (record { m = 365; e = pos 0 } ∷ [])))))
+    (record { m = 114; e = negsuc 5 } ∷ (record { m = 365; e = pos 0 } ∷ (record { m = 1; e = pos 3 } ∷ []))))))
 
 abbrev pub inputs_of : Scenario → Contaminant → List Decimal
 inputs_of s r = constants ++ (scenario_decimals s ++ formula_decimals r)

@@ -4,3 +4,4 @@ pub mod Promises
 pub mod InRange
 pub mod MarkedFigures
 pub mod Refused
+pub mod RecordTests

@@ -27,6 +27,7 @@ use Rattle.outcome.specs.Outcome.{refused, number_of}
 use Rattle.outcome.proofs.Tests.{passing_ok}
 use Rattle.inputs.specs.declared.Scenario.{Scenario}
 use Rattle.inputs.specs.declared.Contaminant.{Contaminant}
+use Rattle.inputs.specs.Earlier.{none_before}
 use Rattle.inputs.specs.Rules.{scenario_refusal, contaminant_fits}
 use Rattle.formulas.specs.Limits.{input_range, formula_roundings, formula_range, total_roundings, total_range, guideline_roundings, guideline_range}
 use Rattle.formulas.specs.Side.{Side, Risk, Hazard}
@@ -149,7 +150,7 @@ module _ (s : Scenario) (medium : ℕ) (r : Contaminant) where
   passed h =
       let a = passing_ok (scenario_refusal s medium) 0 _ h in
       let b = field_passed (contaminant_fits r) _ a.1 in
-      let c = passing_ok (record_refusal s medium r) 1 _ b.1 in
+      let c = passing_ok (record_refusal s medium none_before r) 1 _ b.1 in
       let t = scenario_passed s medium a.0 in
       record { inputs = accepted_inputs s medium r t.fits t.factors b.0; is = rw (a.0, b.0, c.0) refl }
 

@@ -1,9 +1,11 @@
--- The marked figures (docs/SPECIFICATION.md, "Checked figures") as one table: those about decimals, and those of the office worker in soil.
+-- The marked figures (docs/SPECIFICATION.md, "Checked figures") as one table: those about decimals, those of the office worker in soil, and those of
+-- tritium in water.
 use Rattle.std.specs.Prelude.{List, [], ◌∷◌, ◌++◌, get_or, pos, negsuc}
 use Rattle.rounding.specs.declared.Direction.TheVariants.{Up}
 use Rattle.decimal.specs.declared.Decimal.{Decimal}
 use Rattle.decimal.specs.Decimal.{zero_of}
 use Rattle.decimal.specs.Figures.{Figure, figures, dec, ◌is◌}
+use Rattle.inputs.specs.declared.Scenario.{Scenario}
 use Rattle.inputs.specs.declared.Contaminant.{Contaminant}
 use Rattle.inputs.specs.BuiltIn.{office}
 use Rattle.formulas.specs.Side.{Risk}
@@ -32,5 +34,40 @@ office_figures =
     ((guidelines_sent (guideline_of office 1 chemical)).hazard.first is dec 408799998 (negsuc 3)) ∷
     ((guidelines_sent (guideline_of office 1 chemical)).hazard.total is dec 408799998 (negsuc 3)) ∷ []
 
+-- a resident with a house, and tritium (002, Table 1.2.3)
+abbrev pub resident : Scenario
+resident = record {
+  exposure = record { ef = dec 350 (pos 0); ed = dec 30 (pos 0); bw = dec 70 (pos 0); at = dec 70 (pos 0) };
+  contact = record { ir = dec 2 (pos 0); ira = dec 83 (negsuc 1); pef = zero_of; et = dec 167 (negsuc 2); rf = zero_of; sa = dec 19 (negsuc 0) };
+  targets = record { tr = dec 1 (negsuc 5); thi = dec 1 (pos 0) };
+  house = record {
+    m = dec 6696 (negsuc 1);
+    f = dec 625 (negsuc 2);
+    n = dec 4 (pos 0);
+    s = dec 6 (pos 0);
+    v = dec 5 (pos 0);
+    l = dec 276 (negsuc 1);
+    w = dec 272 (pos 0);
+    k = dec 15 (negsuc 5);
+  };
+}
+
+abbrev pub tritium : Contaminant
+tritium = record {
+  class = 3;
+  id = 1;
+  toxicity = record { sfo = dec 72 (negsuc 14); sfi = dec 96 (negsuc 14); sfx = zero_of; rfdo = zero_of; rfdi = zero_of };
+  transfer = record { vf = zero_of; pc = zero_of };
+  c = dec 500 (pos 0);
+}
+
+unfoldable pub tritium_figures : List Figure
+tritium_figures =
+    ((guidelines_sent (guideline_of resident 2 tritium)).risk.first is dec 661375661 (negsuc 5)) ∷
+    ((guidelines_sent (guideline_of resident 2 tritium)).risk.second is dec 668791421 (negsuc 3)) ∷
+    ((guidelines_sent (guideline_of resident 2 tritium)).risk.third is dec 277918126 (negsuc 2)) ∷
+    ((guidelines_sent (guideline_of resident 2 tritium)).risk.total is dec 653359672 (negsuc 5)) ∷
+    ((guidelines_sent (guideline_of resident 2 tritium)).hazard.total is zero_of) ∷ []
+
 abbrev pub marked_figures : List Figure
-marked_figures = figures ++ office_figures
+marked_figures = figures ++ (office_figures ++ tritium_figures)

@@ -8,6 +8,7 @@ use Rattle.outcome.specs.declared.Refusal.TheVariants.{Field}
 use Rattle.outcome.specs.Outcome.{refused, passing}
 use Rattle.inputs.specs.declared.Scenario.{Scenario}
 use Rattle.inputs.specs.declared.Contaminant.{Contaminant}
+use Rattle.inputs.specs.Earlier.{none_before}
 use Rattle.inputs.specs.Rules.{scenario_refusal, contaminant_fits}
 use Rattle.formulas.specs.Side.{Side, Risk, Hazard}
 use Rattle.formulas.specs.Target.{working_target}
@@ -43,8 +44,8 @@ guidelines_of s medium r side = side_of (values_for Up s r) (working_target s si
 abbrev pub both_sides : Scenario → ℕ → Contaminant → Guidelines
 both_sides s medium r = record { risk = guidelines_of s medium r Risk; hazard = guidelines_of s medium r Hazard }
 
--- in block 0 the refusals of the scenario; in block 1 of the record 4 and the refusals after it
+-- in block 0 the refusals of the scenario; in block 1 of the record, which stands alone, 4 and the refusals after it
 unfoldable pub guideline_of : Scenario → ℕ → Contaminant → Result Guidelines Refused
 guideline_of s medium r =
     passing (scenario_refusal s medium) 0
-    (cond (contaminant_fits r) (passing (record_refusal s medium r) 1 (Ok (both_sides s medium r))) (refused Field 1))
+    (cond (contaminant_fits r) (passing (record_refusal s medium none_before r) 1 (Ok (both_sides s medium r))) (refused Field 1))

@@ -12,8 +12,8 @@ use Rattle.decimal.specs.Exponent.{raised}
 use Rattle.decimal.specs.Decimal.{zero_of}
 use Rattle.inputs.specs.declared.Scenario.{Scenario}
 use Rattle.inputs.specs.declared.Contaminant.{Contaminant}
-use Rattle.inputs.specs.Inputs.{scenario_decimals, formula_decimals, contaminant_decimals, scenario_places, contaminant_places, other_decimals, exposure_decimals, contact_decimals, target_decimals}
-use Rattle.inputs.specs.Inputs.{exposure_of, contact_of, targets_of, toxicity_of, transfer_of, scenario_of, contaminant_of}
+use Rattle.inputs.specs.Inputs.{scenario_decimals, formula_decimals, contaminant_decimals, scenario_places, contaminant_places, other_decimals}
+use Rattle.inputs.specs.Inputs.{exposure_of, contact_of, targets_of, house_of, toxicity_of, transfer_of, scenario_of, contaminant_of}
 use Rattle.inputs.specs.Valid.{valid_of, all_valid}
 use Rattle.inputs.specs.Rules.{one_to, OneTo}
 
@@ -56,10 +56,7 @@ contaminant_parts r h = let p = valid_parts (formula_decimals r) (other_decimals
 -- the targets of a scenario
 pub target_parts : (s : Scenario) → all_valid (scenario_decimals s) ≡ true → (valid_of s.targets.tr ≡ true) × (valid_of s.targets.thi ≡ true)
 target_parts s h =
-    let targets = target_decimals s.targets in
-    let contact = contact_decimals s.contact in
-    let own = (valid_parts contact targets (valid_parts (exposure_decimals s.exposure) (contact ++ targets) h).1).1 in
-    (valid_at targets own 0, valid_at targets own 1)
+    (valid_at (scenario_decimals s) h 10, valid_at (scenario_decimals s) h 11)
 
 pub valid_append : (x y : List Decimal) → all_valid x ≡ true → all_valid y ≡ true → all_valid (x ++ y) ≡ true
 valid_append [] y h k = k
@@ -71,7 +68,7 @@ one_to_lem most n h = let a = and_split (leb 1 n) (leb n most) h in (leb-true 1 
 
 -- ---- a record comes back out of the list of its decimals
 pub scenario_of_lem : (s : Scenario) → scenario_of (scenario_decimals s) ≡ s
-unfolding scenario_of exposure_of contact_of targets_of
+unfolding scenario_of exposure_of contact_of targets_of house_of
 scenario_of_lem s = refl
 
 pub contaminant_of_lem : (r : Contaminant) → contaminant_of r.class r.id (contaminant_decimals r) ≡ r

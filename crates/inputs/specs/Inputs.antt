@@ -5,6 +5,7 @@ use Rattle.decimal.specs.Decimal.{zero_of}
 use Rattle.inputs.specs.declared.groups.Exposure.{Exposure}
 use Rattle.inputs.specs.declared.groups.Contact.{Contact}
 use Rattle.inputs.specs.declared.groups.Targets.{Targets}
+use Rattle.inputs.specs.declared.groups.House.{House}
 use Rattle.inputs.specs.declared.Scenario.{Scenario}
 use Rattle.inputs.specs.declared.groups.Toxicity.{Toxicity}
 use Rattle.inputs.specs.declared.groups.Transfer.{Transfer}
@@ -20,6 +21,9 @@ contact_decimals x = x.ir ∷ (x.ira ∷ (x.pef ∷ (x.et ∷ (x.rf ∷ (x.sa �
 abbrev pub target_decimals : {T : Type 0} → Targets T → List T
 target_decimals x = x.tr ∷ (x.thi ∷ [])
 
+abbrev pub house_decimals : {T : Type 0} → House T → List T
+house_decimals x = x.m ∷ (x.f ∷ (x.n ∷ (x.s ∷ (x.v ∷ (x.l ∷ (x.w ∷ (x.k ∷ [])))))))
+
 abbrev pub toxicity_decimals : {T : Type 0} → Toxicity T → List T
 toxicity_decimals x = x.sfo ∷ (x.sfi ∷ (x.sfx ∷ (x.rfdo ∷ (x.rfdi ∷ []))))
 
@@ -28,7 +32,7 @@ transfer_decimals x = x.vf ∷ (x.pc ∷ [])
 
 -- ---- a scenario, and a contaminant: what its formulas name, then the others
 abbrev pub scenario_decimals : Scenario → List Decimal
-scenario_decimals s = exposure_decimals s.exposure ++ (contact_decimals s.contact ++ target_decimals s.targets)
+scenario_decimals s = exposure_decimals s.exposure ++ (contact_decimals s.contact ++ (target_decimals s.targets ++ house_decimals s.house))
 
 abbrev pub formula_decimals : Contaminant → List Decimal
 formula_decimals r = toxicity_decimals r.toxicity ++ transfer_decimals r.transfer
@@ -42,7 +46,7 @@ contaminant_decimals r = formula_decimals r ++ other_decimals r
 
 -- how many they are
 abbrev pub scenario_places : ℕ
-scenario_places = 12
+scenario_places = 20
 
 abbrev pub contaminant_places : ℕ
 contaminant_places = 8
@@ -60,6 +64,9 @@ contact_of l = record { ir = nth l 0; ira = nth l 1; pef = nth l 2; et = nth l 3
 unfoldable pub targets_of : List Decimal → Targets Decimal
 targets_of l = record { tr = nth l 0; thi = nth l 1 }
 
+unfoldable pub house_of : List Decimal → House Decimal
+house_of l = record { m = nth l 0; f = nth l 1; n = nth l 2; s = nth l 3; v = nth l 4; l = nth l 5; w = nth l 6; k = nth l 7 }
+
 unfoldable pub toxicity_of : List Decimal → Toxicity Decimal
 toxicity_of l = record { sfo = nth l 0; sfi = nth l 1; sfx = nth l 2; rfdo = nth l 3; rfdi = nth l 4 }
 
@@ -67,7 +74,7 @@ unfoldable pub transfer_of : List Decimal → Transfer Decimal
 transfer_of l = record { vf = nth l 0; pc = nth l 1 }
 
 unfoldable pub scenario_of : List Decimal → Scenario
-scenario_of l = record { exposure = exposure_of l; contact = contact_of (drop 4 l); targets = targets_of (drop 10 l) }
+scenario_of l = record { exposure = exposure_of l; contact = contact_of (drop 4 l); targets = targets_of (drop 10 l); house = house_of (drop 12 l) }
 
 unfoldable pub contaminant_of : ℕ → ℕ → List Decimal → Contaminant
 contaminant_of class id l = record { class = class; id = id; toxicity = toxicity_of l; transfer = transfer_of (drop 5 l); c = nth l 7 }

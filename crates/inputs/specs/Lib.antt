@@ -3,3 +3,4 @@ pub mod Valid
 pub mod Rules
 pub mod Kinds
 pub mod BuiltIn
+pub mod Earlier

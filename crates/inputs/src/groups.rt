@@ -1,7 +1,7 @@
 // The decimals of a scenario and of a contaminant in groups, each a struct and an array. Zero means not known, or not part of this
 // scenario, in every decimal.
 ghost use Rattle.std.specs.Prelude.{◌≡◌};
-ghost use Rattle.inputs.specs.Inputs.{exposure_decimals, contact_decimals, target_decimals, toxicity_decimals, transfer_decimals};
+ghost use Rattle.inputs.specs.Inputs.{exposure_decimals, contact_decimals, target_decimals, house_decimals, toxicity_decimals, transfer_decimals};
 
 // How often and how long, and of whom: exposure frequency, days per year; exposure duration, years; body weight, kg;
 // averaging time, years.
@@ -13,8 +13,9 @@ pub struct Exposure<T> {
     pub at: T,
 }
 
-// How much meets the body: ingestion, mg of soil or litres of water a day; inhalation, m³ a day; particulate emission factor,
-// m³/kg; hours a day, outdoors or with skin in water; dose reduction factor; skin, cm².
+// How much meets the body: ingestion, mg of soil or litres of water a day; inhalation, m³ a day (m³ an hour in a list with tritium);
+// particulate emission factor, m³/kg; hours a day, outdoors or with skin in water; dose reduction factor; skin, cm² (m² in a list
+// with tritium).
 #[derive(Clone, Copy)]
 pub struct Contact<T> {
     pub ir: T,
@@ -30,6 +31,20 @@ pub struct Contact<T> {
 pub struct Targets<T> {
     pub tr: T,
     pub thi: T,
+}
+
+// The house of tritium in water: moisture of the air, g/m³; fraction of the day indoors; showers a day; shower volumes; volume of the
+// shower, m³; air changes an hour; volume of the house, m³; skin permeability, m/hr.
+#[derive(Clone, Copy)]
+pub struct House<T> {
+    pub m: T,
+    pub f: T,
+    pub n: T,
+    pub s: T,
+    pub v: T,
+    pub l: T,
+    pub w: T,
+    pub k: T,
 }
 
 // Slope factors, oral, inhaled and external; reference doses, oral and inhaled.
@@ -105,6 +120,32 @@ impl<T: Copy> From<Targets<T>> for [T; 2] {
 
     fn from(x: Targets<T>) -> [T; 2] {
         [x.tr, x.thi]
+    }
+}
+
+impl<T: Copy> From<[T; 8]> for House<T> {
+    ghost from_gives = { λ l x. house_decimals x ≡ l };
+
+    fn from(values: [T; 8]) -> House<T> {
+        let [m, f, n, s, v, l, w, k] = values;
+        House {
+            m,
+            f,
+            n,
+            s,
+            v,
+            l,
+            w,
+            k,
+        }
+    }
+}
+
+impl<T: Copy> From<House<T>> for [T; 8] {
+    ghost from_gives = { λ x l. l ≡ house_decimals x };
+
+    fn from(x: House<T>) -> [T; 8] {
+        [x.m, x.f, x.n, x.s, x.v, x.l, x.w, x.k]
     }
 }
 

@@ -10,11 +10,12 @@ pub enum Medium {
     Water,
 }
 
-// What a contaminant's class stands for: 1 chemical, 2 radionuclide.
+// What a contaminant's class stands for: 1 chemical, 2 radionuclide, 3 tritium.
 #[derive(Clone, Copy)]
 pub enum Class {
     Chemical,
     Radionuclide,
+    Tritium,
 }
 
 impl Medium {
@@ -38,6 +39,9 @@ impl Class {
     {
         if n == 2 {
             return Class::Radionuclide;
+        }
+        if n == 3 {
+            return Class::Tritium;
         }
         Class::Chemical
     }

@@ -1,17 +1,19 @@
 // A land-use scenario and a contaminant record, as a file or a caller gives them.
 #![tactic(auto)]
 
+mod earlier;
 mod groups;
 mod kind;
 
 ghost use Rattle.std.specs.Prelude.{◌≡◌};
 ghost use Rattle.inputs.specs.BuiltIn.{built_in_of};
 ghost use Rattle.inputs.specs.Inputs.{scenario_decimals, contaminant_decimals};
-ghost use Rattle.inputs.specs.Rules.{one_to, scenario_fits, contaminant_fits, lacks_factor, scenario_refusal};
+ghost use Rattle.inputs.specs.Rules.{one_to, scenario_fits, contaminant_fits, lacks_factor, lacks_house, scenario_refusal};
 ghost use Rattle.inputs.specs.Valid.{valid_of, all_valid};
 
 use decimal::Decimal;
-pub use groups::{Contact, Exposure, Targets, Toxicity, Transfer};
+pub use earlier::Earlier;
+pub use groups::{Contact, Exposure, House, Targets, Toxicity, Transfer};
 pub use kind::{Class, Medium};
 use outcome::{Refusal, Refused};
 use rounding::BIAS;
@@ -22,7 +24,26 @@ pub const MOST_CONTAMINANTS: u32 = 120;
 // The greatest number of a medium, and of a class.
 const MOST_MEDIUM: u32 = 2;
 
-const MOST_CLASS: u32 = 2;
+const MOST_CLASS: u32 = 3;
+
+// The numbers of soil, of chemicals and of tritium.
+const SOIL: u32 = 1;
+
+const CHEMICAL: u32 = 1;
+
+const TRITIUM: u32 = 3;
+
+// No value of a house.
+const NO_HOUSE: House<Decimal> = House {
+    m: Decimal::ZERO,
+    f: Decimal::ZERO,
+    n: Decimal::ZERO,
+    s: Decimal::ZERO,
+    v: Decimal::ZERO,
+    l: Decimal::ZERO,
+    w: Decimal::ZERO,
+    k: Decimal::ZERO,
+};
 
 // The exponents -20 and 20 of a file or record.
 const LEAST: u64 = BIAS - 20;
@@ -35,9 +56,10 @@ pub struct Scenario {
     pub exposure: Exposure<Decimal>,
     pub contact: Contact<Decimal>,
     pub targets: Targets<Decimal>,
+    pub house: House<Decimal>,
 }
 
-// A contaminant: its class (1 chemical, 2 radionuclide), its id, and its measured concentration C.
+// A contaminant: its class (1 chemical, 2 radionuclide, 3 tritium), its id, and its measured concentration C.
 #[derive(Clone, Copy)]
 pub struct Contaminant {
     pub class: u32,
@@ -68,6 +90,7 @@ impl Scenario {
             tr: Decimal { m: 1, e: -6 },
             thi: Decimal { m: 1, e: 0 },
         },
+        house: NO_HOUSE,
     };
 
     // Archeologist (source 004).
@@ -90,6 +113,7 @@ impl Scenario {
             tr: Decimal { m: 1, e: -6 },
             thi: Decimal { m: 1, e: 0 },
         },
+        house: NO_HOUSE,
     };
 
     // Bird watcher (source 004).
@@ -112,6 +136,7 @@ impl Scenario {
             tr: Decimal { m: 1, e: -6 },
             thi: Decimal { m: 1, e: 0 },
         },
+        house: NO_HOUSE,
     };
 
     // The scenario with every decimal zero.
@@ -134,6 +159,7 @@ impl Scenario {
             tr: Decimal::ZERO,
             thi: Decimal::ZERO,
         },
+        house: NO_HOUSE,
     };
 
     // The built-in scenario of a number from 1 to 3; refusal 11 in block 0 for any other number.
@@ -201,7 +227,8 @@ pub fn valid_scenario(s: Scenario) -> bool
     let exposure = all_valid(s.exposure.into());
     let contact = all_valid(s.contact.into());
     let targets = all_valid(s.targets.into());
-    exposure & contact & targets
+    let house = all_valid(s.house.into());
+    exposure & contact & targets & house
 }
 
 // Whether the decimals of a contaminant keep their rule.
@@ -260,4 +287,15 @@ pub fn scenario_refusal(s: Scenario, medium: u32) -> Result<(), Refusal>
         return Err(Refusal::Factor);
     }
     Ok(())
+}
+
+// Whether a record is tritium where the house has no L or no W, or in soil.
+pub fn lacks_house(s: Scenario, medium: u32, r: Contaminant) -> bool
+    ensures { result ≡ lacks_house s medium r }
+{
+    if r.class != TRITIUM {
+        return false;
+    }
+    let house = s.house;
+    (house.l.m == 0) | (house.w.m == 0) | (medium == SOIL)
 }

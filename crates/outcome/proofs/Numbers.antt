@@ -5,7 +5,7 @@ use Rattle.std.specs.Result.{result_unwrap_or}
 use Rattle.std.specs.Prelude.{Result, Ok, Err, MatchResult, ⊤}
 use Rattle.outcome.specs.declared.Refusal.{Refusal}
 use Rattle.outcome.specs.declared.Refused.{Refused}
-use Rattle.outcome.specs.declared.Refusal.TheVariants.{Length, Check, Kind, Field, Count, Factor, Order, Pathway, Room, Scenario}
+use Rattle.outcome.specs.declared.Refusal.TheVariants.{Length, Check, Kind, Field, Count, Factor, Order, Pathway, Room, Scenario, House}
 use Rattle.outcome.specs.Outcome.{refusal_number, number_of, not_used, most_number}
 
 -- no answer is both
@@ -34,6 +34,7 @@ refusal_numbered Order = record { some = λ e. omega (arith, e); used = λ e. om
 refusal_numbered Pathway = record { some = λ e. omega (arith, e); used = λ e. omega (arith, e); most = omega arith }
 refusal_numbered Room = record { some = λ e. omega (arith, e); used = λ e. omega (arith, e); most = omega arith }
 refusal_numbered Scenario = record { some = λ e. omega (arith, e); used = λ e. omega (arith, e); most = omega arith }
+refusal_numbered House = record { some = λ e. omega (arith, e); used = λ e. omega (arith, e); most = omega arith }
 
 -- an answer with number 0 is accepted
 pub accepted_value : {A : Type 0} (x : Result A Refused) → number_of x ≡ 0 → (a : A) × (x ≡ Ok a)

@@ -1,10 +1,10 @@
--- What is sent back (docs/SPECIFICATION.md, "What is sent back"): a value, or one of ten refusals with the block that it concerns. The number and
+-- What is sent back (docs/SPECIFICATION.md, "What is sent back"): a value, or one of eleven refusals with the block that it concerns. The number and
 -- the block of each case: an accepted call has 0 and 0. The number 9 is not used.
 use Rattle.std.specs.Prelude.{Bool, cond, List, [], ◌∷◌, ℕ, Result, Ok, Err, ⊤}
 use Rattle.std.specs.Result.{result_and}
 use Rattle.outcome.specs.declared.Refusal.{Refusal}
 use Rattle.outcome.specs.declared.Refused.{Refused}
-use Rattle.outcome.specs.declared.Refusal.TheVariants.{Length, Check, Kind, Field, Count, Factor, Order, Pathway, Room, Scenario}
+use Rattle.outcome.specs.declared.Refusal.TheVariants.{Length, Check, Kind, Field, Count, Factor, Order, Pathway, Room, Scenario, House}
 
 abbrev pub refusal_number : Refusal → ℕ
 refusal_number Length = 1
@@ -17,6 +17,7 @@ refusal_number Order = 7
 refusal_number Pathway = 8
 refusal_number Room = 10
 refusal_number Scenario = 11
+refusal_number House = 12
 
 -- the number that none of them has
 abbrev pub not_used : ℕ
@@ -24,7 +25,7 @@ not_used = 9
 
 -- the greatest of them
 abbrev pub most_number : ℕ
-most_number = 11
+most_number = 12
 
 -- a refusal with its block, and the answer that sends it back
 abbrev pub concerning : Refusal → ℕ → Refused

@@ -1,4 +1,4 @@
-// Why a call is refused: one of ten refusals, and the block that it concerns. A call that can be refused answers a Result.
+// Why a call is refused: one of eleven refusals, and the block that it concerns. A call that can be refused answers a Result.
 #![tactic(auto)]
 
 ghost use Rattle.std.specs.Prelude.{◌≡◌};
@@ -17,6 +17,7 @@ pub enum Refusal {
     Pathway,
     Room,
     Scenario,
+    House,
 }
 
 // The number that none of them has.

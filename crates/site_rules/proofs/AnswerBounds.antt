@@ -15,6 +15,8 @@ use Rattle.outcome.proofs.Numbers.{number_most}
 use Rattle.outcome.proofs.Tests.{and_block, passing_block}
 use Rattle.inputs.specs.Rules.{most_contaminants}
 use Rattle.inputs.specs.declared.Scenario.{Scenario}
+use Rattle.inputs.specs.declared.earlier.Earlier.{Earlier}
+use Rattle.inputs.specs.Earlier.{none_before, before_next}
 use Rattle.inputs.specs.declared.Contaminant.{Contaminant}
 use Rattle.block_rules.specs.declared.Header.{Header}
 use Rattle.block_rules.specs.Reading.{header_read, contaminant_read}
@@ -33,17 +35,18 @@ use Rattle.site_rules.proofs.Opened.{count_most, answer_length, answer_header, a
 
 -- ---- the block of what is found in n blocks, the first at place k
 module _ (s : Scenario) (medium : ℕ) (site : List ℕ) where
-  by_read : (n k : ℕ) → ((id : ℕ) → block_of (check_blocks s medium site n (k + 1) id) < k + 1 + n) → (x : Result Contaminant Refusal) →
-      block_of (on_read x (λ (m : Refusal). refused m k) (check_found s medium site n k)) < k + suc n
-  by_read n k again (Err m) = omega arith
-  by_read n k again (Ok r) =
-      let b = passing_block (record_refusal s medium r) k (check_blocks s medium site n (k + 1) r.id) {m = k + n} (omega arith) (omega (arith, again r.id)) in
+  by_read : (n k : ℕ) (before : Earlier) → ((after : Earlier) → block_of (check_blocks s medium site n (k + 1) after) < k + 1 + n) → (x : Result Contaminant Refusal) →
+      block_of (on_read x (λ (m : Refusal). refused m k) (check_found s medium site n k before)) < k + suc n
+  by_read n k before again (Err m) = omega arith
+  by_read n k before again (Ok r) =
+      let b = passing_block (record_refusal s medium before r) k (check_blocks s medium site n (k + 1) (before_next before r)) {m = k + n} (omega arith)
+      (omega (arith, again (before_next before r))) in
       omega (arith, b)
 
-  check_block : (n k before : ℕ) → 1 ≤ k → block_of (check_blocks s medium site n k before) < k + n
+  check_block : (n k : ℕ) (before : Earlier) → 1 ≤ k → block_of (check_blocks s medium site n k before) < k + n
   unfolding check_blocks
   check_block zero k before o = omega arith
-  check_block (suc n) k before o = by_read n k (λ id. check_block n (k + 1) id (omega arith)) (contaminant_read (block_at site k) k before)
+  check_block (suc n) k before o = by_read n k before (λ after. check_block n (k + 1) after (omega arith)) (contaminant_read (block_at site k) k before.id)
 
 -- ---- the whole site
 abbrev Small : {A : Type 0} → Result A Refused → Type 0
@@ -66,7 +69,7 @@ verdict_sent (Err r) side = omega arith
 module _ (site : List ℕ) (out : ℕ) where
   opened_small : (h : Header) → Opened site h → Small (site_answer site out)
   opened_small h o =
-      let b = check_block h.scenario h.medium site h.count 1 0 (omega arith) in
+      let b = check_block h.scenario h.medium site h.count 1 none_before (omega arith) in
       subst (Small {A = Sums}) (sym (answer_walked o out))
       (room_small (length site) out _ (and_block (checked_from site h) (sums_from site h) (omega (arith, b, count_most o)) (omega arith)))
 

@@ -15,6 +15,7 @@ use Rattle.outcome.proofs.Numbers.{not_both, refusal_numbered}
 use Rattle.block_rules.specs.declared.Header.{Header}
 use Rattle.block_rules.specs.Reading.{header_read, contaminant_read}
 use Rattle.sum_rules.specs.Answer.{Sums}
+use Rattle.guideline_rules.proofs.RecordTests.{alone_passed}
 use Rattle.guideline_rules.specs.Pathway.{record_refusal}
 use Rattle.std.specs.Result.{result_and}
 use Rattle.outcome.proofs.Tests.{and_ok}
@@ -22,6 +23,8 @@ use Rattle.site_rules.specs.Blocks.{length_ok, block_at, header_of, record_at}
 use Rattle.site_rules.specs.Site.{site_answer}
 use Rattle.site_rules.proofs.Walk.{check_blocks, check_found, with_room, checked_from, sums_from}
 use Rattle.inputs.specs.declared.Scenario.{Scenario}
+use Rattle.inputs.specs.declared.earlier.Earlier.{Earlier}
+use Rattle.inputs.specs.Earlier.{none_before, before_next}
 use Rattle.inputs.specs.declared.Contaminant.{Contaminant}
 use mathlib.Core.Logic.{◌⊎◌, inl, inr}
 use Rattle.outcome.specs.declared.Refusal.{Refusal}
@@ -47,35 +50,35 @@ module _ (s : Scenario) (medium : ℕ) (site : List ℕ) where
   apart j k l false e = let q = eqb-false j k e in inr (omega (arith, l, q))
 
   -- behind a record that passed its tests nothing is found either
-  pub found_passed : (n k : ℕ) (r : Contaminant) → check_found s medium site n k r ≡ Ok tt →
-      (record_refusal s medium r ≡ Ok tt) × (check_blocks s medium site n (k + 1) r.id ≡ Ok tt)
-  found_passed n k r = cases (record_refusal s medium r) (check_blocks s medium site n (k + 1) r.id)
+  pub found_passed : (n k : ℕ) (before : Earlier) (r : Contaminant) → check_found s medium site n k before r ≡ Ok tt →
+      (record_refusal s medium before r ≡ Ok tt) × (check_blocks s medium site n (k + 1) (before_next before r) ≡ Ok tt)
+  found_passed n k before r = cases (record_refusal s medium before r) (check_blocks s medium site n (k + 1) (before_next before r))
     where
       cases : (x : Result ⊤ Refusal) (c : Result ⊤ Refused) → passing x k c ≡ Ok tt → (x ≡ Ok tt) × (c ≡ Ok tt)
       cases (Ok tt) c e = (refl, e)
       cases (Err m) c e = absurd (not_both (sym e))
 
   -- of the block at place k, or of one after it, by `again`
-  ok_found : (n k before j : ℕ) (r : Contaminant) → contaminant_read (block_at site k) k before ≡ Ok r → (j ≡ k) ⊎ (k + 1 ≤ j) →
-      (check_blocks s medium site n (k + 1) r.id ≡ Ok tt → k + 1 ≤ j → RecordOk s medium (record_at site j)) →
-      check_found s medium site n k r ≡ Ok tt → RecordOk s medium (record_at site j)
+  ok_found : (n k : ℕ) (before : Earlier) (j : ℕ) (r : Contaminant) → contaminant_read (block_at site k) k before.id ≡ Ok r → (j ≡ k) ⊎ (k + 1 ≤ j) →
+      (check_blocks s medium site n (k + 1) (before_next before r) ≡ Ok tt → k + 1 ≤ j → RecordOk s medium (record_at site j)) →
+      check_found s medium site n k before r ≡ Ok tt → RecordOk s medium (record_at site j)
   ok_found n k before j r e (inl q) again z =
-      subst (RecordOk s medium) (found_is site k before r e ∙ ap (record_at site) (sym q))
-      (record { fits = (found_record site k before r e).valid; passed = (found_passed n k r z).0 })
-  ok_found n k before j r e (inr q) again z = again (found_passed n k r z).1 q
+      subst (RecordOk s medium) (found_is site k before.id r e ∙ ap (record_at site) (sym q))
+      (record { fits = (found_record site k before.id r e).valid; passed = alone_passed s medium before r (found_passed n k before r z).0 })
+  ok_found n k before j r e (inr q) again z = again (found_passed n k before r z).1 q
 
-  ok_read : (n k before j : ℕ) → k ≤ j →
-      ((id : ℕ) → check_blocks s medium site n (k + 1) id ≡ Ok tt → k + 1 ≤ j → RecordOk s medium (record_at site j)) →
-      (x : Result Contaminant Refusal) → contaminant_read (block_at site k) k before ≡ x →
-      on_read x (λ (m : Refusal). refused m k) (check_found s medium site n k) ≡ Ok tt → RecordOk s medium (record_at site j)
+  ok_read : (n k : ℕ) (before : Earlier) (j : ℕ) → k ≤ j →
+      ((after : Earlier) → check_blocks s medium site n (k + 1) after ≡ Ok tt → k + 1 ≤ j → RecordOk s medium (record_at site j)) →
+      (x : Result Contaminant Refusal) → contaminant_read (block_at site k) k before.id ≡ x →
+      on_read x (λ (m : Refusal). refused m k) (check_found s medium site n k before) ≡ Ok tt → RecordOk s medium (record_at site j)
   ok_read n k before j l again (Err m) e z = absurd (not_both (sym z))
-  ok_read n k before j l again (Ok r) e z = ok_found n k before j r e (apart j k l (eqb j k) refl) (again r.id) z
+  ok_read n k before j l again (Ok r) e z = ok_found n k before j r e (apart j k l (eqb j k) refl) (again (before_next before r)) z
 
-  pub check_ok : (n k before : ℕ) → check_blocks s medium site n k before ≡ Ok tt → (j : ℕ) → k ≤ j → j < k + n → RecordOk s medium (record_at site j)
+  pub check_ok : (n k : ℕ) (before : Earlier) → check_blocks s medium site n k before ≡ Ok tt → (j : ℕ) → k ≤ j → j < k + n → RecordOk s medium (record_at site j)
   unfolding check_blocks
   check_ok zero k before h j l u = absurd (omega (arith, l, u))
   check_ok (suc n) k before h j l u =
-      ok_read n k before j l (λ id z q. check_ok n (k + 1) id z j q (omega (arith, u))) (contaminant_read (block_at site k) k before) refl h
+      ok_read n k before j l (λ after z q. check_ok n (k + 1) after z j q (omega (arith, u))) (contaminant_read (block_at site k) k before.id) refl h
 
 -- ---- the room
 -- with enough room the answer stays as it is
@@ -106,7 +109,7 @@ module _ (site : List ℕ) (out : ℕ) (z : number_of (site_answer site out) ≡
         room = l;
         checked = p;
         answer = e ∙ rw p refl;
-        records = λ k first last. check_ok h.scenario h.medium site h.count 1 0 p k first (omega (arith, last));
+        records = λ k first last. check_ok h.scenario h.medium site h.count 1 none_before p k first (omega (arith, last));
       }
 
   -- ---- the header and the length

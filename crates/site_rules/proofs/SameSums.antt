@@ -11,6 +11,8 @@ use Rattle.outcome.specs.declared.Refused.{Refused}
 use Rattle.outcome.specs.Outcome.{on_read, refused, number_of}
 use Rattle.outcome.proofs.Numbers.{not_both}
 use Rattle.inputs.specs.declared.Scenario.{Scenario}
+use Rattle.inputs.specs.declared.earlier.Earlier.{Earlier}
+use Rattle.inputs.specs.Earlier.{none_before, before_next}
 use Rattle.inputs.specs.declared.Contaminant.{Contaminant}
 use Rattle.block_rules.specs.declared.Header.{Header}
 use Rattle.block_rules.specs.Reading.{contaminant_read}
@@ -38,7 +40,7 @@ records_long site zero k = refl
 records_long site (suc n) k = ap suc (records_long site n (k + 1))
 
 -- a list that passes the tests before its first record
-pub sums_walked : (s : Scenario) (medium : ℕ) (rs : List Contaminant) → first_refusal s medium (length rs) ≡ Ok tt → sums_of s medium rs ≡ walk s medium rs 1 0 start start
+pub sums_walked : (s : Scenario) (medium : ℕ) (rs : List Contaminant) → first_refusal s medium (length rs) ≡ Ok tt → sums_of s medium rs ≡ walk s medium rs 1 none_before start start
 unfolding sums_of
 sums_walked s medium rs e = rw e refl
 
@@ -48,27 +50,27 @@ sums_after s medium risk hazard rs = accepted s (run_all s medium Risk risk rs) 
 
 module _ (s : Scenario) (medium : ℕ) (site : List ℕ) where
   -- a block, by what is read of it; `again` is the same of the blocks after it
-  by_read : (n k before : ℕ) (risk hazard : Running) →
-      ((id : ℕ) (x y : Running) → check_blocks s medium site n (k + 1) id ≡ Ok tt →
-      sums_after s medium x y (records_from site n (k + 1)) ≡ walk s medium (records_from site n (k + 1)) (k + 1) id x y) →
-      (x : Result Contaminant Refusal) → contaminant_read (block_at site k) k before ≡ x →
-      on_read x (λ (m : Refusal). refused m k) (check_found s medium site n k) ≡ Ok tt →
+  by_read : (n k : ℕ) (before : Earlier) (risk hazard : Running) →
+      ((after : Earlier) (x y : Running) → check_blocks s medium site n (k + 1) after ≡ Ok tt →
+      sums_after s medium x y (records_from site n (k + 1)) ≡ walk s medium (records_from site n (k + 1)) (k + 1) after x y) →
+      (x : Result Contaminant Refusal) → contaminant_read (block_at site k) k before.id ≡ x →
+      on_read x (λ (m : Refusal). refused m k) (check_found s medium site n k before) ≡ Ok tt →
       sums_after s medium risk hazard (record_at site k ∷ records_from site n (k + 1)) ≡ walk s medium (record_at site k ∷ records_from site n (k + 1)) k before risk hazard
   unfolding walk
   by_read n k before risk hazard again (Err m) e z = absurd (not_both (sym z))
   by_read n k before risk hazard again (Ok r) e z =
-      let f = found_record site k before r e in
-      let p = found_passed s medium site n k r z in
+      let f = found_record site k before.id r e in
+      let p = found_passed s medium site n k before r z in
       let rest = records_from site n (k + 1) in
-      subst (λ (q : Contaminant). sums_after s medium risk hazard (q ∷ rest) ≡ walk s medium (q ∷ rest) k before risk hazard) (found_is site k before r e)
-      (rw (f.valid, lt-leb r.id before f.above, p.0) (again r.id (next s medium Risk risk r) (next s medium Hazard hazard r) p.1))
+      subst (λ (q : Contaminant). sums_after s medium risk hazard (q ∷ rest) ≡ walk s medium (q ∷ rest) k before risk hazard) (found_is site k before.id r e)
+      (rw (f.valid, lt-leb r.id before.id f.above, p.0) (again (before_next before r) (next s medium Risk risk r) (next s medium Hazard hazard r) p.1))
 
   -- where nothing is found, the list call over the records reports their sums
-  walk_same : (n k before : ℕ) (risk hazard : Running) → check_blocks s medium site n k before ≡ Ok tt →
+  walk_same : (n k : ℕ) (before : Earlier) (risk hazard : Running) → check_blocks s medium site n k before ≡ Ok tt →
       sums_after s medium risk hazard (records_from site n k) ≡ walk s medium (records_from site n k) k before risk hazard
   unfolding check_blocks records_from walk
   walk_same zero k before risk hazard z = refl
-  walk_same (suc n) k before risk hazard z = by_read n k before risk hazard (walk_same n (k + 1)) (contaminant_read (block_at site k) k before) refl z
+  walk_same (suc n) k before risk hazard z = by_read n k before risk hazard (walk_same n (k + 1)) (contaminant_read (block_at site k) k before.id) refl z
 
 first_passed : {site : List ℕ} {h : Header} → Opened site h → first_refusal h.scenario h.medium (length (records_from site h.count 1)) ≡ Ok tt
 first_passed {site} {h} o =
@@ -81,5 +83,5 @@ pub site_sums : (site : List ℕ) (out : ℕ) → number_of (site_answer site ou
 site_sums site out z =
     let p = passed_site site out z in
     let h = header_of site in
-    p.answer ∙ walk_same h.scenario h.medium site h.count 1 0 start start p.checked ∙
+    p.answer ∙ walk_same h.scenario h.medium site h.count 1 none_before start start p.checked ∙
     sym (sums_walked h.scenario h.medium (records_from site h.count 1) (first_passed p.opened))

@@ -14,6 +14,7 @@ use Rattle.std.specs.Prelude.{Result, Ok, Err, ⊤}
 use Rattle.outcome.specs.declared.Refused.{Refused}
 use Rattle.outcome.specs.Outcome.{number_of, answered, passing}
 use Rattle.inputs.specs.declared.Scenario.{Scenario}
+use Rattle.inputs.specs.Earlier.{none_before}
 use Rattle.inputs.specs.declared.Contaminant.{Contaminant}
 use Rattle.inputs.specs.Rules.{one_to, most_class, lacks_factor, scenario_refusal, contaminant_fits}
 use Rattle.inputs.proofs.Tests.{and_split}
@@ -72,11 +73,11 @@ module _ (h : Header) (r : Contaminant) (fit : header_fit h ≡ true) (known : l
       let n = eqb-false r.id 0 (not-true _ b.0) in
       omega (arith, n)
 
-  walked : answered (walk s m (r ∷ []) 1 0 start start) ≡ answered (guideline_of s m r)
+  walked : answered (walk s m (r ∷ []) 1 none_before start start) ≡ answered (guideline_of s m r)
   unfolding walk guideline_of scenario_refusal
   walked =
       rw (opened_fits opened, opened_known opened, fits, lt-leb r.id 0 id_some)
-      (by_tests (record_refusal s m r) (accepted s (next s m Risk start r) (next s m Hazard start r)) (Ok (both_sides s m r)) refl)
+      (by_tests (record_refusal s m none_before r) (accepted s (next s m Risk start r) (next s m Hazard start r)) (Ok (both_sides s m r)) refl)
 
   -- THE SAME number and block
   pub single_answer : (out : ℕ) → 1024 ≤ out →

@@ -12,6 +12,8 @@ use Rattle.std.specs.Result.{result_and}
 use Rattle.outcome.specs.declared.Refused.{Refused}
 use Rattle.outcome.specs.Outcome.{refused, on_read, passing}
 use Rattle.inputs.specs.declared.Scenario.{Scenario}
+use Rattle.inputs.specs.declared.earlier.Earlier.{Earlier}
+use Rattle.inputs.specs.Earlier.{none_before, before_next}
 use Rattle.inputs.specs.declared.Contaminant.{Contaminant}
 use Rattle.block_rules.specs.declared.Header.{Header}
 use Rattle.block_rules.specs.Rules.{block_size}
@@ -20,16 +22,16 @@ use Rattle.guideline_rules.specs.Pathway.{record_refusal}
 use Rattle.sum_rules.specs.Answer.{Sums}
 use Rattle.site_rules.specs.Blocks.{length_ok, block_at, records_from, all_sums}
 
--- n blocks, the first at place k, after the id `before`: 2, 3, 4 and 7 by `contaminant_read`, then the tests of a record
-unfoldable pub check_blocks : Scenario → ℕ → List ℕ → ℕ → ℕ → ℕ → Result ⊤ Refused
+-- n blocks, the first at place k, with what stands before its record: 2, 3, 4 and 7 by `contaminant_read`, then the tests of a record
+unfoldable pub check_blocks : Scenario → ℕ → List ℕ → ℕ → ℕ → Earlier → Result ⊤ Refused
 check_blocks s medium site zero k before = Ok tt
 check_blocks s medium site (suc n) k before =
-    on_read (contaminant_read (block_at site k) k before) (λ (m : Refusal). refused m k)
-    (λ (r : Contaminant). passing (record_refusal s medium r) k (check_blocks s medium site n (k + 1) r.id))
+    on_read (contaminant_read (block_at site k) k before.id) (λ (m : Refusal). refused m k)
+    (λ (r : Contaminant). passing (record_refusal s medium before r) k (check_blocks s medium site n (k + 1) (before_next before r)))
 
 -- what is found from the record at place k on, n blocks behind it
-abbrev pub check_found : Scenario → ℕ → List ℕ → ℕ → ℕ → Contaminant → Result ⊤ Refused
-check_found s medium site n k r = passing (record_refusal s medium r) k (check_blocks s medium site n (k + 1) r.id)
+abbrev pub check_found : Scenario → ℕ → List ℕ → ℕ → ℕ → Earlier → Contaminant → Result ⊤ Refused
+check_found s medium site n k before r = passing (record_refusal s medium before r) k (check_blocks s medium site n (k + 1) (before_next before r))
 
 -- last 10: the output is shorter than the site
 unfoldable pub with_room : ℕ → ℕ → Result Sums Refused → Result Sums Refused
@@ -38,7 +40,7 @@ with_room site out (Err r) = Err r
 
 -- what is found in the blocks behind a header, and the sums over all records
 abbrev pub checked_from : List ℕ → Header → Result ⊤ Refused
-checked_from site h = check_blocks h.scenario h.medium site h.count 1 0
+checked_from site h = check_blocks h.scenario h.medium site h.count 1 none_before
 
 abbrev pub sums_from : List ℕ → Header → Result Sums Refused
 sums_from site h = all_sums h.scenario h.medium (records_from site h.count 1)

@@ -16,6 +16,8 @@ use Rattle.outcome.proofs.Tests.{and_after, read_after}
 use Rattle.std.specs.Result.{result_and}
 use Rattle.words.specs.Words.{word_at}
 use Rattle.inputs.specs.declared.Scenario.{Scenario}
+use Rattle.inputs.specs.declared.earlier.Earlier.{Earlier}
+use Rattle.inputs.specs.Earlier.{none_before, before_next}
 use Rattle.inputs.specs.declared.Contaminant.{Contaminant}
 use Rattle.inputs.specs.Inputs.{contaminant_of}
 use Rattle.inputs.specs.Rules.{scenario_fits, lacks_factor, contaminant_fits}
@@ -103,29 +105,30 @@ tests_first k (t ∷ ts) v = cases t.holds (tests_first k ts v)
 -- ---- the later blocks
 module _ (s : Scenario) (medium : ℕ) (site : List ℕ) where
   -- inside the site, each is tried by its conditions
-  check_table : (n k before : ℕ) (v : Result Sums Refused) → 512 * (k + n) ≤ length site →
+  check_table : (n k : ℕ) (before : Earlier) (v : Result Sums Refused) → 512 * (k + n) ≤ length site →
       result_and (check_blocks s medium site n k before) v ≡ first_holding (later_conditions s medium site n k before) v
   unfolding check_blocks later_conditions block_conditions record_refusal record_at block_at
   check_table zero k before v l = refl
   check_table (suc n) k before v l =
       let r = record_at site k in
-      let own = record_refusal s medium r in
-      let found = check_found s medium site n k in
-      let rest = later_conditions s medium site n (k + 1) r.id in
-      read_after (contaminant_read (block_at site k) k before) k found v ∙
-      block_steps (block_at site k) (λ m. refused m k) (is_block site (512 * k) (omega arith)) k before (λ q. result_and (found q) v) _
-      (and_after (located own k) (check_blocks s medium site n (k + 1) r.id) v ∙ ap (passing own k) (check_table n (k + 1) r.id v (omega arith)) ∙
-      tests_first k (record_tests s medium r) (first_holding rest v) ∙ sym (first_append (record_conditions s medium site k) rest v))
+      let after = before_next before r in
+      let own = record_refusal s medium before r in
+      let found = check_found s medium site n k before in
+      let rest = later_conditions s medium site n (k + 1) after in
+      read_after (contaminant_read (block_at site k) k before.id) k found v ∙
+      block_steps (block_at site k) (λ m. refused m k) (is_block site (512 * k) (omega arith)) k before.id (λ q. result_and (found q) v) _
+      (and_after (located own k) (check_blocks s medium site n (k + 1) after) v ∙ ap (passing own k) (check_table n (k + 1) after v (omega arith)) ∙
+      tests_first k (record_tests s medium before r) (first_holding rest v) ∙ sym (first_append (record_conditions s medium site k before) rest v))
 
   later_table : (n : ℕ) (out : ℕ) → 512 * n + 512 ≤ length site →
       let sums = all_sums s medium (records_from site n 1) in
-      with_room (length site) out (result_and (check_blocks s medium site n 1 0) sums) ≡ first_holding (later_conditions s medium site n 1 0 ++ room_condition site out ∷ []) sums
+      with_room (length site) out (result_and (check_blocks s medium site n 1 none_before) sums) ≡ first_holding (later_conditions s medium site n 1 none_before ++ room_condition site out ∷ []) sums
   unfolding with_room
   later_table n out l =
       let sums = all_sums s medium (records_from site n 1) in
-      ap (with_room (length site) out) (check_table n 1 0 sums (omega arith)) ∙
-      room_last (later_conditions s medium site n 1 0) (length site) out sums ∙
-      sym (first_append (later_conditions s medium site n 1 0) (room_condition site out ∷ []) sums)
+      ap (with_room (length site) out) (check_table n 1 none_before sums (omega arith)) ∙
+      room_last (later_conditions s medium site n 1 none_before) (length site) out sums ∙
+      sym (first_append (later_conditions s medium site n 1 none_before) (room_condition site out ∷ []) sums)
 
 -- ---- the site
 module _ (site : List ℕ) (out : ℕ) where

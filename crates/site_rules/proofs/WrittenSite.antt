@@ -16,6 +16,8 @@ use Rattle.std.specs.Result.{result_and}
 use Rattle.guideline_rules.specs.Pathway.{record_refusal}
 use Rattle.outcome.specs.declared.Refusal.TheVariants.{Order}
 use Rattle.inputs.specs.declared.Scenario.{Scenario}
+use Rattle.inputs.specs.declared.earlier.Earlier.{Earlier}
+use Rattle.inputs.specs.Earlier.{none_before, before_next}
 use Rattle.inputs.specs.declared.Contaminant.{Contaminant}
 use Rattle.inputs.specs.Rules.{scenario_fits, lacks_factor, contaminant_fits}
 use Rattle.inputs.proofs.Tests.{and_split}
@@ -54,23 +56,24 @@ module _ (s : Scenario) (medium : ℕ) (site : List ℕ) where
       contaminant_read_back k before r (rw (le-leb 1 k l, le-leb k 120 u, fits)) small
 
   -- what is found of such a block by its order, and from its record on
-  by_order : (n k before : ℕ) (risk hazard : Running) (r : Contaminant) (rs : List Contaminant) →
+  by_order : (n k : ℕ) (before : Earlier) (risk hazard : Running) (r : Contaminant) (rs : List Contaminant) →
       let x = next s medium Risk risk r in
       let y = next s medium Hazard hazard r in
-      result_and (check_blocks s medium site n (k + 1) r.id) (sums_after s medium x y (records_from site n (k + 1))) ≡ walk s medium rs (k + 1) r.id x y →
-      (b : Bool) → contaminant_read (block_at site k) k before ≡ cond b (Err Order) (Ok r) →
-      result_and (on_read (cond b (Err Order) (Ok r)) (λ (m : Refusal). refused m k) (check_found s medium site n k))
+      let after = before_next before r in
+      result_and (check_blocks s medium site n (k + 1) after) (sums_after s medium x y (records_from site n (k + 1))) ≡ walk s medium rs (k + 1) after x y →
+      (b : Bool) → contaminant_read (block_at site k) k before.id ≡ cond b (Err Order) (Ok r) →
+      result_and (on_read (cond b (Err Order) (Ok r)) (λ (m : Refusal). refused m k) (check_found s medium site n k before))
       (sums_after s medium risk hazard (record_at site k ∷ records_from site n (k + 1))) ≡
-      cond b (refused Order k) (passing (record_refusal s medium r) k (walk s medium rs (k + 1) r.id x y))
+      cond b (refused Order k) (passing (record_refusal s medium before r) k (walk s medium rs (k + 1) after x y))
   by_order n k before risk hazard r rs again true e = refl
   by_order n k before risk hazard r rs again false e =
-      let own = record_refusal s medium r in
+      let own = record_refusal s medium before r in
       let rest = records_from site n (k + 1) in
-      let found = check_found s medium site n k r in
-      ap (λ (q : Contaminant). result_and found (sums_after s medium risk hazard (q ∷ rest))) (sym (found_is site k before r e)) ∙
-      and_after (located own k) (check_blocks s medium site n (k + 1) r.id) (sums_after s medium risk hazard (r ∷ rest)) ∙ ap (passing own k) again
+      let found = check_found s medium site n k before r in
+      ap (λ (q : Contaminant). result_and found (sums_after s medium risk hazard (q ∷ rest))) (sym (found_is site k before.id r e)) ∙
+      and_after (located own k) (check_blocks s medium site n (k + 1) (before_next before r)) (sums_after s medium risk hazard (r ∷ rest)) ∙ ap (passing own k) again
 
-  walk_written : (rs : List Contaminant) (k before : ℕ) (risk hazard : Running) → Writable rs → 1 ≤ k → k + length rs ≤ 121 → drop (512 * k) site ≡ blocks_from k rs →
+  walk_written : (rs : List Contaminant) (k : ℕ) (before : Earlier) (risk hazard : Running) → Writable rs → 1 ≤ k → k + length rs ≤ 121 → drop (512 * k) site ≡ blocks_from k rs →
       result_and (check_blocks s medium site (length rs) k before) (sums_after s medium risk hazard (records_from site (length rs) k)) ≡ walk s medium rs k before risk hazard
   unfolding check_blocks records_from walk blocks_from
   walk_written [] k before risk hazard nobody l u e = refl
@@ -80,12 +83,12 @@ module _ (s : Scenario) (medium : ℕ) (site : List ℕ) where
       let place : 512 * k + 512 ≡ 512 * (k + 1) = omega arith in
       let behind : drop (512 * (k + 1)) site ≡ blocks_from (k + 1) rs =
       ap (λ (n : ℕ). drop n site) (sym place) ∙ rest_next site (contaminant_block k r) (blocks_from (k + 1) rs) (512 * k) 512 e (contaminant_length k r) in
-      let read = block_read k before r (blocks_from (k + 1) rs) e l (omega arith) fits small in
-      let found = check_found s medium site (length rs) k in
+      let read = block_read k before.id r (blocks_from (k + 1) rs) e l (omega arith) fits small in
+      let found = check_found s medium site (length rs) k before in
       let sums = sums_after s medium risk hazard (record_at site k ∷ records_from site (length rs) (k + 1)) in
       rw fits
       (ap (λ (q : Result Contaminant Refusal). result_and (on_read q (λ (m : Refusal). refused m k) found) sums) read ∙
-      by_order (length rs) k before risk hazard r rs (walk_written rs (k + 1) r.id x y all (omega arith) (omega arith) behind) (leb r.id before) read)
+      by_order (length rs) k before risk hazard r rs (walk_written rs (k + 1) (before_next before r) x y all (omega arith) (omega arith) behind) (leb r.id before.id) read)
 
 -- ---- the site
 blocks_long : (k : ℕ) (rs : List Contaminant) → length (blocks_from k rs) ≡ 512 * length rs
@@ -134,6 +137,6 @@ module _ (h : Header) (rs : List Contaminant) (fit : header_fit h ≡ true) (kno
       let site = site_of h rs in
       let o = written_opened in
       answer_walked o out ∙ room_kept (length site) out (result_and (checked_from site h) (sums_from site h)) (omega (arith, written_length h rs)) ∙
-      ap (λ (n : ℕ). result_and (check_blocks s m site n 1 0) (sums_after s m start start (records_from site n 1))) counted ∙
-      walk_written s m site rs 1 0 start start all (omega arith) (omega (arith, count_fits)) behind_header ∙
+      ap (λ (n : ℕ). result_and (check_blocks s m site n 1 none_before) (sums_after s m start start (records_from site n 1))) counted ∙
+      walk_written s m site rs 1 none_before start start all (omega arith) (omega (arith, count_fits)) behind_header ∙
       sym (sums_walked s m rs (ap (first_refusal s m) (sym counted) ∙ first_accepted s m h.count (count_some o) (count_most o) (opened_fits o) (opened_known o)))

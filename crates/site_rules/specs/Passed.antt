@@ -2,6 +2,7 @@
 use Rattle.std.specs.Prelude.{◌≡◌, true, List, ℕ, ◌/◌, length, Ok}
 use Rattle.block_rules.specs.Rules.{block_size}
 use Rattle.inputs.specs.declared.Scenario.{Scenario}
+use Rattle.inputs.specs.Earlier.{none_before}
 use Rattle.inputs.specs.declared.Contaminant.{Contaminant}
 use Rattle.inputs.specs.Rules.{contaminant_fits}
 use Rattle.block_rules.specs.declared.Header.{Header}
@@ -15,7 +16,7 @@ pub record Opened (site : List ℕ) (h : Header) : Type 0 where
   pub right : length_ok (length site) ≡ true
   pub header : header_read (block_at site 0) (length site / block_size) ≡ Ok h
 
--- a record that keeps its rules and passed its tests
+-- a record that keeps its rules and passes its tests standing alone
 pub record RecordOk (s : Scenario) (medium : ℕ) (r : Contaminant) : Type 0 where
   pub fits : contaminant_fits r ≡ true
-  pub passed : record_refusal s medium r ≡ Ok tt
+  pub passed : record_refusal s medium none_before r ≡ Ok tt

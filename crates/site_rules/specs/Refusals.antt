@@ -1,5 +1,7 @@
 -- The refusals of the site call as one table (docs/SPECIFICATION.md, "What is sent back"): each condition by its number, word and plain
 -- test, and all of them in the order in which they are tried. The first that holds is sent back, with the block that was tested.
+use Rattle.inputs.specs.declared.earlier.Earlier.{Earlier}
+use Rattle.inputs.specs.Earlier.{none_before, before_next}
 use Rattle.std.specs.Prelude.{◌≡◌, Bool, true, false, cond, not, ◌&&◌, List, [], ◌∷◌, ◌++◌, map, ℕ, zero, suc, ◌+◌, ◌/◌, length, eqb, leb, ltb, Result}
 use Rattle.outcome.specs.declared.Refusal.{Refusal}
 use Rattle.outcome.specs.declared.Refusal.TheVariants.{Length, Check, Kind, Field, Count, Factor, Order, Room}
@@ -56,12 +58,12 @@ factor_condition site = condition Factor 0 (lacks_factor (header_of site).scenar
 abbrev pub order_condition : List ℕ → ℕ → ℕ → Condition
 order_condition site k before = condition Order k (leb (record_at site k).id before)
 
--- the tests of a record, 8 Pathway among them, in its block
+-- 12 House: tritium without L or W or in soil, or a chemical and tritium in one list; then 8 Pathway: the tests of a record, in its block
 abbrev pub in_block : ℕ → Test → Condition
 in_block k t = condition t.refusal k t.holds
 
-abbrev pub record_conditions : Scenario → ℕ → List ℕ → ℕ → List Condition
-record_conditions s medium site k = map (in_block k) (record_tests s medium (record_at site k))
+abbrev pub record_conditions : Scenario → ℕ → List ℕ → ℕ → Earlier → List Condition
+record_conditions s medium site k before = map (in_block k) (record_tests s medium before (record_at site k))
 
 -- 10 Room: output under the site's length
 abbrev pub room_condition : List ℕ → ℕ → Condition
@@ -72,22 +74,22 @@ room_condition site out = condition Room 0 (ltb out (length site))
 unfoldable pub header_conditions : List ℕ → List Condition
 header_conditions site = check_condition site 0 ∷ kind_condition 1 site 0 ∷ header_field_condition site ∷ count_condition site ∷ factor_condition site ∷ []
 
--- the block at place k, after the id `before`: 2, 3, 4, 7, the tests of a record
-unfoldable pub block_conditions : Scenario → ℕ → List ℕ → ℕ → ℕ → List Condition
+-- the block at place k, with what stands before its record: 2, 3, 4, 7, the tests of a record
+unfoldable pub block_conditions : Scenario → ℕ → List ℕ → ℕ → Earlier → List Condition
 block_conditions s medium site k before =
-    check_condition site k ∷ kind_condition 2 site k ∷ block_field_condition site k ∷ order_condition site k before ∷ record_conditions s medium site k
+    check_condition site k ∷ kind_condition 2 site k ∷ block_field_condition site k ∷ order_condition site k before.id ∷ record_conditions s medium site k before
 
--- n blocks, the first at place k: each after the id of the block before it
-unfoldable pub later_conditions : Scenario → ℕ → List ℕ → ℕ → ℕ → ℕ → List Condition
+-- n blocks, the first at place k: each with what stands before its record
+unfoldable pub later_conditions : Scenario → ℕ → List ℕ → ℕ → ℕ → Earlier → List Condition
 later_conditions s medium site zero k before = []
-later_conditions s medium site (suc n) k before = block_conditions s medium site k before ++ later_conditions s medium site n (k + 1) (record_at site k).id
+later_conditions s medium site (suc n) k before = block_conditions s medium site k before ++ later_conditions s medium site n (k + 1) (before_next before (record_at site k))
 
 -- the whole table of a site and an output of so many bytes
 unfoldable pub site_conditions : List ℕ → ℕ → List Condition
 site_conditions site out =
     length_condition site ∷
     header_conditions site ++
-    later_conditions (header_of site).scenario (header_of site).medium site (header_of site).count 1 0 ++
+    later_conditions (header_of site).scenario (header_of site).medium site (header_of site).count 1 none_before ++
     room_condition site out ∷ []
 
 -- ---- the first that holds

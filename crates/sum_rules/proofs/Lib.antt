@@ -6,3 +6,4 @@ pub mod InRange
 pub mod OnTheWay
 pub mod ExampleSums
 pub mod AnswerBounds
+pub mod Classes

@@ -20,6 +20,8 @@ use Rattle.outcome.proofs.Tests.{passing_ok}
 use Rattle.std.specs.Prelude.{Result, Ok}
 use Rattle.inputs.specs.declared.Scenario.{Scenario}
 use Rattle.inputs.specs.declared.Contaminant.{Contaminant}
+use Rattle.inputs.specs.declared.earlier.Earlier.{Earlier}
+use Rattle.inputs.specs.Earlier.{none_before, before_next}
 use Rattle.inputs.specs.Rules.{scenario_tests, scenario_refusal, contaminant_fits}
 use Rattle.inputs.proofs.Tests.{and_split}
 use Rattle.formulas.specs.Side.{Side, Risk, Hazard}
@@ -75,25 +77,25 @@ record Walked (s : Scenario) (medium : ℕ) (rs : List Contaminant) (risk hazard
   is : w ≡ accepted s (run_all s medium Risk risk rs) (run_all s medium Hazard hazard rs)
 
 -- a record that is taken in: it keeps its rules, and the rest was walked
-step_cases : (s : Scenario) (medium : ℕ) (r : Contaminant) (rs : List Contaminant) (n : ℕ) (risk hazard : Running) (w : Result Sums Refused) (a b : Bool) →
+step_cases : (s : Scenario) (medium : ℕ) (r : Contaminant) (rs : List Contaminant) (n : ℕ) (before : Earlier) (risk hazard : Running) (w : Result Sums Refused) (a b : Bool) →
     contaminant_fits r ≡ a → Fits s medium → (number_of w ≡ 0 → Walked s medium rs (next s medium Risk risk r) (next s medium Hazard hazard r) w) →
-    let v = cond a (cond b (refused Order n) (passing (record_refusal s medium r) n w)) (refused Field n) in
+    let v = cond a (cond b (refused Order n) (passing (record_refusal s medium before r) n w)) (refused Field n) in
     number_of v ≡ 0 → Walked s medium (r ∷ rs) risk hazard v
-step_cases s medium r rs n risk hazard w true false e g again h =
-    let t = passing_ok (record_refusal s medium r) n w h in
+step_cases s medium r rs n before risk hazard w true false e g again h =
+    let t = passing_ok (record_refusal s medium before r) n w h in
     let p = again t.1 in
     record { all = also (accepted_inputs s medium r g.fits g.factors e) p.all; is = rw t.0 p.is }
-step_cases s medium r rs n risk hazard w true true e g again h = absurd (omega (arith, h))
-step_cases s medium r rs n risk hazard w false b e g again h = absurd (omega (arith, h))
+step_cases s medium r rs n before risk hazard w true true e g again h = absurd (omega (arith, h))
+step_cases s medium r rs n before risk hazard w false b e g again h = absurd (omega (arith, h))
 
-walk_accepted : (s : Scenario) (medium : ℕ) → Fits s medium → (rs : List Contaminant) (n before : ℕ) (risk hazard : Running) →
+walk_accepted : (s : Scenario) (medium : ℕ) → Fits s medium → (rs : List Contaminant) (n : ℕ) (before : Earlier) (risk hazard : Running) →
     number_of (walk s medium rs n before risk hazard) ≡ 0 → Walked s medium rs risk hazard (walk s medium rs n before risk hazard)
 unfolding walk
 walk_accepted s medium g [] n before risk hazard h = record { all = nobody; is = refl }
 walk_accepted s medium g (r ∷ rs) n before risk hazard h =
-    step_cases s medium r rs n risk hazard (walk s medium rs (n + 1) r.id (next s medium Risk risk r) (next s medium Hazard hazard r))
-    (contaminant_fits r) (leb r.id before) refl g
-    (walk_accepted s medium g rs (n + 1) r.id (next s medium Risk risk r) (next s medium Hazard hazard r)) h
+    step_cases s medium r rs n before risk hazard (walk s medium rs (n + 1) (before_next before r) (next s medium Risk risk r) (next s medium Hazard hazard r))
+    (contaminant_fits r) (leb r.id before.id) refl g
+    (walk_accepted s medium g rs (n + 1) (before_next before r) (next s medium Risk risk r) (next s medium Hazard hazard r)) h
 
 -- ---- an accepted list call
 pub record AcceptedList (s : Scenario) (medium : ℕ) (rs : List Contaminant) : Type 0 where
@@ -117,15 +119,15 @@ first_passed s medium n = cases (leb 1 n && leb n 120) refl
     cases false e h = absurd (not_both (sym h))
 
 module _ (s : Scenario) (medium : ℕ) (rs : List Contaminant) (h : number_of (sums_of s medium rs) ≡ 0) where
-  outside : (first_refusal s medium (length rs) ≡ Ok tt) × (number_of (walk s medium rs 1 0 start start) ≡ 0)
+  outside : (first_refusal s medium (length rs) ≡ Ok tt) × (number_of (walk s medium rs 1 none_before start start) ≡ 0)
   unfolding sums_of
-  outside = passing_ok (first_refusal s medium (length rs)) 0 (walk s medium rs 1 0 start start) h
+  outside = passing_ok (first_refusal s medium (length rs)) 0 (walk s medium rs 1 none_before start start) h
 
   parts : FirstPassed s medium (length rs)
   parts = first_passed s medium (length rs) outside.0
 
-  walked : Walked s medium rs start start (walk s medium rs 1 0 start start)
-  walked = walk_accepted s medium parts.scenario rs 1 0 start start outside.1
+  walked : Walked s medium rs start start (walk s medium rs 1 none_before start start)
+  walked = walk_accepted s medium parts.scenario rs 1 none_before start start outside.1
 
   sums_is : sums_of s medium rs ≡ accepted s (run_all s medium Risk start rs) (run_all s medium Hazard start rs)
   unfolding sums_of

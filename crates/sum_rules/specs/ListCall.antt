@@ -6,6 +6,8 @@ use Rattle.outcome.specs.declared.Refusal.TheVariants.{Length, Field, Order}
 use Rattle.outcome.specs.Outcome.{refused, Test, test, refused_by, passing}
 use Rattle.inputs.specs.declared.Scenario.{Scenario}
 use Rattle.inputs.specs.declared.Contaminant.{Contaminant}
+use Rattle.inputs.specs.declared.earlier.Earlier.{Earlier}
+use Rattle.inputs.specs.Earlier.{none_before, before_next}
 use Rattle.inputs.specs.Rules.{scenario_tests, contaminant_fits, most_contaminants}
 use Rattle.formulas.specs.Side.{Side, Risk, Hazard}
 use Rattle.formulas.specs.Target.{working_target}
@@ -29,15 +31,16 @@ first_tests s medium n = test Length (not (leb 1 n && leb n most_contaminants)) 
 unfoldable pub first_refusal : Scenario → ℕ → ℕ → Result ⊤ Refusal
 first_refusal s medium n = refused_by (first_tests s medium n)
 
--- ---- record by record, the n-th counting as block n: 4, 7, then the tests of a record, or the answer with this record taken in
-unfoldable pub walk : Scenario → ℕ → List Contaminant → ℕ → ℕ → Running → Running → Result Sums Refused
+-- ---- record by record, the n-th counting as block n, with what stands before it: 4, 7, then the tests of a record, or the answer with this
+-- record taken in
+unfoldable pub walk : Scenario → ℕ → List Contaminant → ℕ → Earlier → Running → Running → Result Sums Refused
 walk s medium [] n before risk hazard = accepted s risk hazard
 walk s medium (r ∷ rs) n before risk hazard =
     cond (contaminant_fits r)
-    (cond (leb r.id before) (refused Order n)
-    (passing (record_refusal s medium r) n (walk s medium rs (n + 1) r.id (next s medium Risk risk r) (next s medium Hazard hazard r))))
+    (cond (leb r.id before.id) (refused Order n)
+    (passing (record_refusal s medium before r) n (walk s medium rs (n + 1) (before_next before r) (next s medium Risk risk r) (next s medium Hazard hazard r))))
     (refused Field n)
 
 -- in block 0 the tests before the first record, then the records
 unfoldable pub sums_of : Scenario → ℕ → List Contaminant → Result Sums Refused
-sums_of s medium rs = passing (first_refusal s medium (length rs)) 0 (walk s medium rs 1 0 start start)
+sums_of s medium rs = passing (first_refusal s medium (length rs)) 0 (walk s medium rs 1 none_before start start)
