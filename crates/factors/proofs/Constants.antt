@@ -35,9 +35,13 @@ pub half_stands : Stands input_width (num 500000000 2991) (working_of (dec 5 (ne
 unfolding working_of nine_of
 half_stands = record { is = refl; working = inr (record { least = lit≤ tt; most = lit< tt }); most = lit< tt; low = lit≤ tt; high = lit≤ tt }
 
-pub hours_stands : Stands input_width (num 114000000 2988) (working_of (dec 114 (negsuc 5)))
+pub years_per_hour_stands : Stands input_width (num 114000000 2988) (working_of (dec 114 (negsuc 5)))
 unfolding working_of nine_of
-hours_stands = record { is = refl; working = inr (record { least = lit≤ tt; most = lit< tt }); most = lit< tt; low = lit≤ tt; high = lit≤ tt }
+years_per_hour_stands = record { is = refl; working = inr (record { least = lit≤ tt; most = lit< tt }); most = lit< tt; low = lit≤ tt; high = lit≤ tt }
+
+pub thousand_stands : Stands input_width (num 100000000 2995) (working_of (dec 1 (pos 3)))
+unfolding working_of nine_of
+thousand_stands = record { is = refl; working = inr (record { least = lit≤ tt; most = lit< tt }); most = lit< tt; low = lit≤ tt; high = lit≤ tt }
 
 pub days_stands : Stands input_width (num 365000000 2994) (working_of (dec 365 (pos 0)))
 unfolding working_of nine_of

@@ -1,2 +1,3 @@
 pub mod StandsLaws
 pub mod Constants
+pub mod Hours

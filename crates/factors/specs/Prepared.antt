@@ -4,10 +4,12 @@ use Rattle.rounding.specs.Sizes.{ten_digits, bias}
 use Rattle.rounding.specs.declared.Direction.{Direction}
 use Rattle.rounding.specs.declared.Number.{Number}
 use Rattle.rounding.specs.Direction.{opposite}
-use Rattle.factors.specs.Widths.{two_width, three_width, middle_width}
+use Rattle.factors.specs.Widths.{two_width, three_width, hours_width, middle_width}
 use Rattle.decimal.specs.declared.Decimal.{Decimal}
-use Rattle.decimal.specs.Decimal.{decimal_of, div_of, working_of}
+use Rattle.decimal.specs.Decimal.{decimal_of, add_of, div_of, working_of}
 use Rattle.decimal.specs.Lists.{product_of}
+use Rattle.inputs.specs.declared.kind.Medium.{Medium}
+use Rattle.inputs.specs.declared.kind.Medium.TheVariants.{Water}
 use Rattle.factors.specs.declared.numbers.Factors.{Factors}
 use Rattle.factors.specs.declared.prepared.Prepared.{Prepared}
 use Rattle.factors.specs.Stands.{Stands, ReadyFactors}
@@ -37,6 +39,20 @@ days = working_of (record { m = 365; e = pos 0 })
 abbrev pub unit : Decimal
 unit = working_of (record { m = 1; e = pos 0 })
 
+-- H = ET + (F, N, S, V / L, W), of the decimals that the factors stand for: its product after the stroke is rounded the other way
+abbrev pub shower_of : Direction → Factors → Decimal
+shower_of dir f =
+    let x = f.house in
+    div_of (product_of dir (decimal_of x.f ∷ decimal_of x.n ∷ decimal_of x.s ∷ decimal_of x.v ∷ []))
+    (product_of (opposite dir) (decimal_of x.l ∷ decimal_of x.w ∷ [])) dir
+
+abbrev pub hours_of : Direction → Factors → Decimal
+hours_of dir f = add_of (decimal_of f.contact.et) (shower_of dir f) dir
+
+-- h is H in water, where a record may need it
+abbrev pub HoursFor : Direction → Medium → Factors → Number → Type 0
+HoursFor dir medium f h = medium ≡ Water → Stands hours_width h (hours_of dir f)
+
 -- p holds the factors f and their products in a direction
 pub record PreparedFor (dir : Direction) (f : Factors) (p : Prepared) : Type 0 where
   pub same : p.factors ≡ f
@@ -46,3 +62,4 @@ pub record PreparedFor (dir : Direction) (f : Factors) (p : Prepared) : Type 0 w
   pub water_intake : Stands two_width p.water_intake (product_of dir (decimal_of f.contact.ir ∷ decimal_of f.exposure.ef ∷ []))
   pub vapour_intake : Stands three_width p.vapour_intake (product_of dir (decimal_of f.contact.ira ∷ half ∷ decimal_of f.exposure.ef ∷ []))
   pub inverse_pef : Stands two_width p.inverse_pef (div_of unit (decimal_of f.contact.pef) dir)
+  pub hours : HoursFor dir p.medium f p.hours

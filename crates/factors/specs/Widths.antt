@@ -14,6 +14,16 @@ two_width = input_width + input_width + 1
 abbrev pub three_width : ℕ
 three_width = two_width + input_width + 1
 
+-- H: its second part, a product of four over a product of two, and the sum of both parts
+abbrev pub four_width : ℕ
+four_width = three_width + input_width + 1
+
+abbrev pub shower_width : ℕ
+shower_width = four_width + two_width + 1
+
+abbrev pub hours_width : ℕ
+hours_width = shower_width + 1
+
 -- what may be multiplied twice
 abbrev pub middle_width : ℕ
 middle_width = 300

@@ -7,7 +7,7 @@ ghost use Rattle.inputs.specs.Valid.{valid_of, all_valid};
 ghost use Rattle.factors.specs.Stands.{Stands, StandAll, FactorsFor, NumbersFor};
 
 use decimal::Decimal;
-use inputs::{Contact, Contaminant, Exposure, Scenario, Targets, Toxicity, Transfer};
+use inputs::{Contact, Contaminant, Exposure, House, Scenario, Targets, Toxicity, Transfer};
 use rounding::Number;
 
 // The factors of a scenario.
@@ -16,6 +16,7 @@ pub struct Factors {
     pub exposure: Exposure<Number>,
     pub contact: Contact<Number>,
     pub targets: Targets<Number>,
+    pub house: House<Number>,
 }
 
 // The decimals of a contaminant that a formula names: all but its concentration.
@@ -49,6 +50,7 @@ pub fn scenario_numbers(s: Scenario) -> Factors
         exposure: numbers_of(s.exposure.into()).into(),
         contact: numbers_of(s.contact.into()).into(),
         targets: numbers_of(s.targets.into()).into(),
+        house: numbers_of(s.house.into()).into(),
     }
 }
 

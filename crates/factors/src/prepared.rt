@@ -2,9 +2,10 @@
 ghost use Rattle.std.specs.Prelude.{◌≡◌};
 ghost use Rattle.rounding.specs.Operations.{product_of};
 ghost use Rattle.factors.specs.Stands.{ReadyFactors};
-ghost use Rattle.factors.specs.Prepared.{Middle, Product3, PreparedFor};
+ghost use Rattle.factors.specs.Prepared.{Middle, Product3, HoursFor, PreparedFor};
 
 use crate::numbers::Factors;
+use inputs::Medium;
 use rounding::{BIAS, Direction, NINE_DIGITS, Number};
 
 // The constants 1, 10^-6, 0.5 and 365.
@@ -28,16 +29,18 @@ pub const DAYS: Number = Number {
     x: BIAS - 6,
 };
 
-// The scenario's factors, and in a direction: the divisor BW, AT, 365 of every risk term of a chemical
-// (rounded the other way); the dividends of hazard by ingestion of soil, of water and by vapour; and 1 / PEF.
+// The medium and the scenario's factors, and in a direction: the divisor BW, AT, 365 of every risk term of a chemical
+// (rounded the other way); the dividends of hazard by ingestion of soil, of water and by vapour; 1 / PEF; and H, in water.
 #[derive(Clone, Copy)]
 pub struct Prepared {
+    pub medium: Medium,
     pub factors: Factors,
     pub lifetime: Number,
     pub soil_intake: Number,
     pub water_intake: Number,
     pub vapour_intake: Number,
     pub inverse_pef: Number,
+    pub hours: Number,
 }
 
 // a * b * c, from the left.
@@ -48,21 +51,44 @@ pub fn product3(a: Number, b: Number, c: Number, dir: Direction) -> Number
     a.mul(b, dir).mul(c, dir)
 }
 
-pub fn prepare(f: Factors, dir: Direction) -> Prepared
+// H = ET + (F, N, S, V / L, W), in water. Where the house has no L or no W the second part adds nothing, and nothing is worked out; in
+// soil no record needs H.
+fn hours(f: Factors, medium: Medium, dir: Direction) -> Number
     requires { ReadyFactors f }
-    ensures { PreparedFor dir f result }
+    ensures { HoursFor dir medium f result }
+{
+    if matches!(medium, Medium::Soil) {
+        return Number::ZERO;
+    }
+    let x = f.house;
+    let et = f.contact.et;
+    if (x.l.m == 0) | (x.w.m == 0) {
+        return et;
+    }
+    let shower = product3(x.f, x.n, x.s, dir).mul(x.v, dir);
+    let air = x.l.mul(x.w, dir.opposite());
+    et.add(shower.div(air, dir), dir)
+}
+
+// What a scenario gives in a medium and a direction.
+pub fn prepare(f: Factors, medium: Medium, dir: Direction) -> Prepared
+    requires { ReadyFactors f }
+    ensures { PreparedFor dir f result × (result.medium ≡ medium) }
 {
     let lifetime = product3(f.exposure.bw, f.exposure.at, DAYS, dir.opposite());
     let soil_intake = product3(f.contact.ir, MILLIONTH, f.exposure.ef, dir);
     let water_intake = f.contact.ir.mul(f.exposure.ef, dir);
     let vapour_intake = product3(f.contact.ira, HALF, f.exposure.ef, dir);
     let inverse_pef = ONE.div(f.contact.pef, dir);
+    let hours = hours(f, medium, dir);
     Prepared {
+        medium,
         factors: f,
         lifetime,
         soil_intake,
         water_intake,
         vapour_intake,
         inverse_pef,
+        hours,
     }
 }

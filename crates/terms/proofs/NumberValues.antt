@@ -1,4 +1,4 @@
--- The values that the code's numbers stand for: every one is zero where its m is, and B is what the code adds up. Assumes nothing.
+-- The values that the code's numbers stand for: every one is zero where its m is, and B and H are what the code works out. Assumes nothing.
 use mathlib.Core.Path.{◌≡◌, refl, sym, ap, subst, ◌∙◌}
 use mathlib.Core.List.{List, [], ◌∷◌, ◌++◌, map}
 use Prim.Native.Nat.{ℕ, zero, suc, ◌+◌, ◌-◌, ◌≤◌}
@@ -16,25 +16,28 @@ use Rattle.factors.specs.declared.numbers.Factors.{Factors}
 use Rattle.factors.specs.declared.numbers.ContaminantNumbers.{ContaminantNumbers}
 use Rattle.factors.specs.declared.prepared.Prepared.{Prepared}
 use Rattle.terms.specs.declared.pathways.PathwayTerms.{PathwayTerms}
-use Rattle.factors.specs.Widths.{input_width, formula_width, two_width}
-use Rattle.formulas.specs.Side.{Side, Hazard}
-use Rattle.formulas.specs.Formula.{◌÷◌, none, B, One, VF, PEF, no_pathways, table, pathways_of, derived, derived_places}
+use Rattle.factors.specs.Widths.{input_width, formula_width, two_width, hours_width}
+use Rattle.inputs.specs.declared.kind.Medium.TheVariants.{Water}
+use Rattle.decimal.specs.Range.{ends}
+use Rattle.factors.proofs.Hours.{shower_value, hours_value}
+use Rattle.formulas.specs.Side.{Side}
+use Rattle.formulas.specs.Formula.{◌÷◌, none, B, H, One, ET, F, N, S, Vol, L, W, VF, PEF, no_pathways, pathways_of, derived, derived_places}
 use Rattle.formulas.specs.Term.{look, constants, present_of, evaluated, term_of, total_of}
 use Rattle.factors.specs.Stands.{Stands, StandAll, factor_numbers, contaminant_numbers}
 use Rattle.factors.specs.Stands.StandAll.{end, next}
-use Rattle.factors.specs.Prepared.{Middle, unit}
+use Rattle.factors.specs.Prepared.{Middle, unit, shower_of, hours_of}
 use Rattle.terms.specs.Side.{number_inputs, number_values, Ready, SideFor, no_side}
-use Rattle.decimal.proofs.Value.{skip_first, skip_next, value_zero}
+use Rattle.decimal.proofs.Value.{Value, skip_first, skip_next, value_zero}
 use Rattle.factors.proofs.StandsLaws.{no_number, zero_stands, stands_at, stands_join, stands_operand, stands_middle, stands_value, stands_most, stands_is, stands_div, stands_add, stands_mul3}
-use Rattle.factors.proofs.Constants.{num, unit_stands, millionth_stands, thousandth_stands, half_stands, hours_stands, days_stands}
+use Rattle.factors.proofs.Constants.{num, unit_stands, millionth_stands, thousandth_stands, half_stands, years_per_hour_stands, days_stands, thousand_stands}
 use Rattle.formulas.proofs.Presence.{ZeroByDigits, term_evaluated}
 
 -- ---- the code's numbers in the order of the table's names, from the first constant
 abbrev constant_numbers : List Number
-constant_numbers = num 100000000 2992 ∷ (num 100000000 2986 ∷ (num 100000000 2989 ∷ (num 500000000 2991 ∷ (num 114000000 2988 ∷ (num 365000000 2994 ∷ [])))))
+constant_numbers = num 100000000 2992 ∷ (num 100000000 2986 ∷ (num 100000000 2989 ∷ (num 500000000 2991 ∷ (num 114000000 2988 ∷ (num 365000000 2994 ∷ (num 100000000 2995 ∷ []))))))
 
 constants_stand : StandAll constant_numbers (map working_of constants)
-constants_stand = next unit_stands (next millionth_stands (next thousandth_stands (next half_stands (next hours_stands (next days_stands end)))))
+constants_stand = next unit_stands (next millionth_stands (next thousandth_stands (next half_stands (next years_per_hour_stands (next days_stands (next thousand_stands end))))))
 
 abbrev pub numbers : Factors → ContaminantNumbers → List Number
 numbers f t = constant_numbers ++ (factor_numbers f ++ contaminant_numbers t)
@@ -76,11 +79,11 @@ module _ {dir : Direction} {p : Prepared} {t : ContaminantNumbers} (r : Ready di
   input_known n = value_zero (stands_value (lit≤ tt) (stands_at inputs_stand n))
 
   plain : List Decimal
-  plain = zero_of ∷ number_inputs f t
+  plain = zero_of ∷ zero_of ∷ number_inputs f t
 
   plain_known : (n : ℕ) → ZeroByDigits (look plain n)
   unfolding plain
-  plain_known n = fronted (worked (λ e. refl) bare) (number_inputs f t) input_known n
+  plain_known n = fronted (worked (λ e. refl) (worked (λ e. refl) bare)) (number_inputs f t) input_known n
 
   -- the two parts of B
   vf_term : term_of plain dir ((One ∷ []) ÷ (VF ∷ [])) ≡ div_of unit (decimal_of t.transfer.vf) dir
@@ -111,10 +114,37 @@ module _ {dir : Direction} {p : Prepared} {t : ContaminantNumbers} (r : Ready di
   unfolding air_number
   air_stands = stands_is (sym added) (stands_add dir vf_stands r.prepared.inverse_pef (lit≤ tt) (lit≤ tt) refl)
 
+  -- the two parts of H, and what the code works out
+  et_term : term_of plain dir ((ET ∷ []) ÷ []) ≡ decimal_of f.contact.et
+  unfolding plain
+  et_term = term_evaluated plain plain_known dir ((ET ∷ []) ÷ [])
+
+  shower_term : term_of plain dir ((F ∷ N ∷ S ∷ Vol ∷ []) ÷ (L ∷ W ∷ [])) ≡ shower_of dir f
+  unfolding plain
+  shower_term = term_evaluated plain plain_known dir ((F ∷ N ∷ S ∷ Vol ∷ []) ÷ (L ∷ W ∷ []))
+
+  et_value : Value (ends input_width input_width) (decimal_of f.contact.et)
+  unfolding number_values derived
+  et_value = stands_value (lit≤ tt) (input ET)
+
+  hours_added : look (number_values dir f t) H ≡ hours_of dir f
+  unfolding number_values derived total_of plain
+  hours_added =
+      ap (λ (d : Decimal). summed dir zero_of (d ∷ term_of plain dir ((F ∷ N ∷ S ∷ Vol ∷ []) ÷ (L ∷ W ∷ [])) ∷ [])) et_term ∙
+      ap (λ (d : Decimal). summed dir zero_of (decimal_of f.contact.et ∷ d ∷ [])) shower_term ∙
+      ap (λ (d : Decimal). summed dir d (shower_of dir f ∷ [])) (skip_first dir et_value) ∙
+      skip_next dir et_value (shower_value dir r.prepared.ready)
+
+  pub hours_stands : p.medium ≡ Water → Stands hours_width p.hours (look (number_values dir f t) H)
+  hours_stands water = stands_is (sym hours_added) (r.prepared.hours water)
+
+  hours_known : ZeroByDigits (look (number_values dir f t) H)
+  hours_known = subst ZeroByDigits (sym hours_added) (value_zero (hours_value dir r.prepared.ready))
+
   -- every value is zero where its m is
   values_known : (n : ℕ) → ZeroByDigits (look (number_values dir f t) n)
   unfolding number_values derived
-  values_known n = fronted (worked (value_zero (stands_value (lit≤ tt) air_stands)) bare) (number_inputs f t) input_known n
+  values_known n = fronted (worked (value_zero (stands_value (lit≤ tt) air_stands)) (worked hours_known bare)) (number_inputs f t) input_known n
 
   -- ---- a number that stands for a formula's value stands for its term
   pub side_term : (medium class : ℕ) (side : Side) (n : ℕ) {w : ℕ} {x : Number} → w ≤ formula_width →
@@ -145,15 +175,6 @@ no_term vs dir = refl
 none_stands : (vs : List Decimal) (dir : Direction) → Stands formula_width no_number (term_of vs dir none)
 none_stands vs dir = stands_is (sym (no_term vs dir)) (stands_most (lit≤ tt) zero_stands)
 
--- a radionuclide has no pathway of hazard
-module _ (dir : Direction) (f : Factors) (t : ContaminantNumbers) {s : PathwayTerms} (e : s ≡ no_side) where
-  no_terms : SideFor dir f t no_pathways s
-  no_terms = subst (SideFor dir f t no_pathways) (sym e) (record { first = none_stands _ dir; second = none_stands _ dir; third = none_stands _ dir })
-
-  pub no_soil_hazard : SideFor dir f t (pathways_of 1 2 Hazard) s
-  unfolding pathways_of table
-  no_soil_hazard = no_terms
-
-  pub no_water_hazard : SideFor dir f t (pathways_of 2 2 Hazard) s
-  unfolding pathways_of table
-  no_water_hazard = no_terms
+-- a side without a pathway: hazard of all but chemicals, and tritium in soil
+pub no_terms : (dir : Direction) (f : Factors) (t : ContaminantNumbers) {s : PathwayTerms} → s ≡ no_side → SideFor dir f t no_pathways s
+no_terms dir f t e = subst (SideFor dir f t no_pathways) (sym e) (record { first = none_stands _ dir; second = none_stands _ dir; third = none_stands _ dir })

@@ -1,4 +1,4 @@
-// The terms of the three pathways on each side, for a chemical and for a radionuclide, in soil and in water. A term whose
+// The terms of the three pathways on each side, for a chemical, a radionuclide and tritium, in soil and in water. A term whose
 // pathway is absent is zero: a zero factor makes the product zero, and a zero divisor the quotient. In each function e is the
 // exposure and k the contact of the scenario, x the toxicity of the contaminant.
 ghost use Rattle.std.specs.Prelude.{◌≡◌};
@@ -8,6 +8,7 @@ ghost use Rattle.formulas.specs.Formula.{pathways_of};
 ghost use Rattle.terms.specs.Side.{Ready, Air, no_side, SideFor, TermsFor, WideSide, TotalSize};
 ghost use Rattle.terms.specs.OneProof.{one_ready};
 ghost use Rattle.inputs.specs.Kinds.{medium_number, class_number};
+ghost use Rattle.inputs.specs.declared.kind.Medium.TheVariants.{Water};
 
 use factors::numbers::ContaminantNumbers;
 use factors::prepared::{DAYS, HALF, MILLIONTH, ONE, Prepared, product3};
@@ -15,10 +16,15 @@ use formulas::Sides;
 use inputs::{Class, Medium};
 use rounding::{BIAS, Direction, NINE_DIGITS, Number};
 
-// The constants that only a term names: 10^-3 and 0.000114.
+// The constants that only a term names: 10^-3, 10^3 and 0.000114.
 const THOUSANDTH: Number = Number {
     m: NINE_DIGITS,
     x: BIAS - 11,
+};
+
+const THOUSAND: Number = Number {
+    m: NINE_DIGITS,
+    x: BIAS - 5,
 };
 
 const YEARS_PER_HOUR: Number = Number {
@@ -163,6 +169,30 @@ impl Given {
             third: Number::ZERO,
         }
     }
+
+    // Water, tritium, risk: ingestion, inhalation and skin.
+    fn water_tritium_risk(self) -> PathwayTerms
+        requires { self.p.medium ≡ Water }
+        ensures { SideFor self.dir self.p.factors self.t (pathways_of 2 3 Risk) result }
+    {
+        let Given { p, t, dir } = self;
+        let e = p.factors.exposure;
+        let k = p.factors.contact;
+        let house = p.factors.house;
+        let x = t.toxicity;
+        let breathed = product3(
+            product3(x.sfi, k.ira, house.m, dir),
+            THOUSANDTH,
+            p.hours,
+            dir,
+        );
+        let wet = product3(product3(x.sfo, k.sa, house.k, dir), k.et, THOUSAND, dir);
+        PathwayTerms {
+            first: product3(x.sfo.mul(k.ir, dir), e.ef, e.ed, dir),
+            second: product3(breathed, e.ef, e.ed, dir),
+            third: product3(wet, e.ef, e.ed, dir),
+        }
+    }
 }
 
 // No pathway.
@@ -176,19 +206,13 @@ fn no_side() -> PathwayTerms
     }
 }
 
-// The terms of both sides in a medium for a class.
-pub fn terms_of(
-    p: Prepared,
-    t: ContaminantNumbers,
-    medium: Medium,
-    class: Class,
-    dir: Direction,
-) -> Terms
+// The terms of both sides for a class, in the medium that was prepared for.
+pub fn terms_of(p: Prepared, t: ContaminantNumbers, class: Class, dir: Direction) -> Terms
     requires { Ready dir p t }
-    ensures { TermsFor dir p.factors t (medium_number medium) (class_number class) result }
+    ensures { TermsFor dir p.factors t (medium_number p.medium) (class_number class) result }
 {
     let given = Given { p, t, dir };
-    match (class, medium) {
+    match (class, p.medium) {
         (Class::Chemical, Medium::Soil) => {
             let b = given.air();
             Terms {
@@ -206,6 +230,17 @@ pub fn terms_of(
         },
         (Class::Radionuclide, Medium::Water) => Terms {
             risk: given.water_radionuclide_risk(),
+            hazard: no_side(),
+        },
+        (Class::Tritium, Medium::Soil) => {
+            let none = no_side();
+            Terms {
+                risk: none,
+                hazard: none,
+            }
+        }
+        (Class::Tritium, Medium::Water) => Terms {
+            risk: given.water_tritium_risk(),
             hazard: no_side(),
         },
     }

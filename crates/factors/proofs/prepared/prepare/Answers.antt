@@ -52,13 +52,16 @@ div-inverse_pef-requires c =
 pub returns : goal.returns
 returns c =
     let dir = c.args.dir in
-    let factor = stands_at c.requires in
-    record {
-      same = refl;
-      ready = c.requires;
-      lifetime = rw (← c.opposite.ensures) (stands_mul3 c.opposite.result (factor BW) (factor AT) days_stands (lit≤ tt) c.product3-lifetime.ensures.0);
-      soil_intake = stands_mul3 dir (factor IR) millionth_stands (factor EF) (lit≤ tt) c.product3-soil_intake.ensures.0;
-      water_intake = stands_mul dir (factor IR) (factor EF) (lit≤ tt) c.mul-water_intake.ensures.0;
-      vapour_intake = stands_mul3 dir (factor IRA) half_stands (factor EF) (lit≤ tt) c.product3-vapour_intake.ensures.0;
-      inverse_pef = stands_div dir unit_stands (factor PEF) (lit≤ tt) c.div-inverse_pef.ensures.0;
-    }
+    let factor = stands_at c.requires in (
+      record {
+        same = refl;
+        ready = c.requires;
+        lifetime = rw (← c.opposite.ensures) (stands_mul3 c.opposite.result (factor BW) (factor AT) days_stands (lit≤ tt) c.product3-lifetime.ensures.0);
+        soil_intake = stands_mul3 dir (factor IR) millionth_stands (factor EF) (lit≤ tt) c.product3-soil_intake.ensures.0;
+        water_intake = stands_mul dir (factor IR) (factor EF) (lit≤ tt) c.mul-water_intake.ensures.0;
+        vapour_intake = stands_mul3 dir (factor IRA) half_stands (factor EF) (lit≤ tt) c.product3-vapour_intake.ensures.0;
+        inverse_pef = stands_div dir unit_stands (factor PEF) (lit≤ tt) c.div-inverse_pef.ensures.0;
+        hours = c.hours-hours.ensures;
+      },
+      refl,
+    )
