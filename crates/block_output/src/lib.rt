@@ -43,8 +43,9 @@ pub fn put_header(out: &mut [u8], h: Header)
     fields::put_all(out, 16, s.exposure.into());
     fields::put_all(out, 48, s.contact.into());
     fields::put_all(out, 96, s.targets.into());
-    words::clear(out, 112, 396);
-    put_last_word(out, 28);
+    fields::put_all(out, 112, s.house.into());
+    words::clear(out, 176, 332);
+    put_last_word(out, 44);
 }
 
 // Writes a block of kind 2.

@@ -51,19 +51,20 @@ fn sound(block: &[u8], place: u32) -> bool
 
 // The scenario whose first decimal stands at `at`.
 fn get_scenario(part: &[u8], at: usize) -> Scenario
-    requires { at + 96 ≤ length part.now }
+    requires { at + 160 ≤ length part.now }
     ensures { result ≡ scenario_at part.now at }
 {
     Scenario {
         exposure: fields::read_all(part, at).into(),
         contact: fields::read_all(part, at + 32).into(),
         targets: fields::read_all(part, at + 80).into(),
+        house: fields::read_all(part, at + 96).into(),
     }
 }
 
 // The header whose medium stands at `at`: in the 504 bytes between kind and last word at 4, in a struct of C at 0.
 pub fn get_header(part: &[u8], at: usize) -> Header
-    requires { at + 104 ≤ length part.now }
+    requires { at + 168 ≤ length part.now }
     ensures { result ≡ header_at part.now at }
 {
     Header {
@@ -78,7 +79,7 @@ pub fn header_unused(part: &[u8], at: usize) -> bool
     requires { at + struct_size ≤ length part.now }
     ensures { result ≡ header_unused part.now at }
 {
-    fields::unused_zero(part, at + 8, 12) & words::all_zero(part, at + 104, 396)
+    fields::unused_zero(part, at + 8, 20) & words::all_zero(part, at + 168, 332)
 }
 
 // The contaminant whose class stands at `at`: in the 504 bytes between kind and last word at 4, in a struct of C at 0.

@@ -1,5 +1,5 @@
 // Runs the calls that stand beside the site call on the stored cases of standard input. A case is three words of four bytes,
-// lowest first, the call, its argument and a count, and then the blocks that the call takes: the first 128 bytes of each,
+// lowest first, the call, its argument and a count, and then the blocks that the call takes: 288 bytes of a header and 128 of a contaminant,
 // which hold all that is read here. The checks of a block are left out, so that values which no file may hold reach the calls
 // too. Each case prints a line: the number of its call, and what came back. The crates value_calls and writer_calls run the calls.
 #![tactic(auto)]

@@ -12,21 +12,18 @@ use outcome::Refused;
 use std::io::{self, Read};
 use sum_rules::Sums;
 
-// The first 128 bytes of the next block. What the input does not give of them is of zeros.
-fn read_block<R: Read>(input: &mut R) -> io::Result<[u8; 128]> {
+// The first 288 bytes of the next header block, unchecked. What the input does not give of them is of zeros.
+pub fn read_header<R: Read>(input: &mut R) -> io::Result<Header> {
+    let mut block = [0u8; 288];
+    read_full(input, &mut block)?;
+    Ok(blocks::get_header(&block, 8))
+}
+
+// The first 128 bytes of the next contaminant block, likewise.
+pub fn read_contaminant<R: Read>(input: &mut R) -> io::Result<Contaminant> {
     let mut block = [0u8; 128];
     read_full(input, &mut block)?;
-    Ok(block)
-}
-
-// The header in the next block, unchecked.
-pub fn read_header<R: Read>(input: &mut R) -> io::Result<Header> {
-    Ok(blocks::get_header(&read_block(input)?, 8))
-}
-
-// The contaminant in the next block, unchecked.
-pub fn read_contaminant<R: Read>(input: &mut R) -> io::Result<Contaminant> {
-    Ok(blocks::get_contaminant(&read_block(input)?, 8))
+    Ok(blocks::get_contaminant(&block, 8))
 }
 
 // The first `count` contaminants of a list; those after them are of zeros.

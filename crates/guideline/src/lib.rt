@@ -12,7 +12,9 @@ ghost use Rattle.guideline_rules.specs.Guideline.{both_sides, guideline_of};
 
 use formulas::Sides;
 use guideline_rules::{Guidelines, SideGuidelines};
-use inputs::{Class, Contaminant, Medium, Scenario, Targets, contaminant_fits, scenario_refusal};
+use inputs::{
+    Class, Contaminant, Earlier, Medium, Scenario, Targets, contaminant_fits, scenario_refusal,
+};
 use outcome::{Refusal, Refused, located};
 use presence::record_refusal;
 use rounding::{Direction, Number};
@@ -81,7 +83,7 @@ pub fn decimals(c: Column) -> SideGuidelines
     }
 }
 
-// The guidelines for inputs that keep their rules: no exponent on the way leaves -999 to 999 (`worked_in_range`).
+// The guidelines for inputs that keep their rules: no exponent on the way leaves -999 to 999 (`guideline_in_range`).
 fn worked_out(s: Scenario, medium: u32, r: Contaminant) -> Guidelines
     requires { Accepted s medium r }
     ensures { result ≡ both_sides s medium r }
@@ -89,9 +91,9 @@ fn worked_out(s: Scenario, medium: u32, r: Contaminant) -> Guidelines
     let medium = Medium::of(medium);
     let class = Class::of(r.class);
     let f = factors::numbers::scenario_numbers(s);
-    let p = factors::prepared::prepare(f, Direction::Up);
+    let p = factors::prepared::prepare(f, medium, Direction::Up);
     let t = factors::numbers::contaminant_numbers(r);
-    let side = terms::pathways::terms_of(p, t, medium, class, Direction::Up);
+    let side = terms::pathways::terms_of(p, t, class, Direction::Up);
     let columns = columns_of(f.targets, side);
     Guidelines {
         risk: decimals(columns.risk),
@@ -108,6 +110,6 @@ pub fn guideline(s: Scenario, medium: u32, r: Contaminant) -> Result<Guidelines,
     if !contaminant_fits(r) {
         return Err(Refusal::Field.in_block(1));
     }
-    located(record_refusal(s, medium, r), 1)?;
+    located(record_refusal(s, medium, Earlier::NONE, r), 1)?;
     Ok(worked_out(s, medium, r))
 }

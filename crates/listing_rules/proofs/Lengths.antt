@@ -57,11 +57,11 @@ refusal_most n block = simp length-append (omega (arith, number_most n, number_m
 
 pub lines_most : (class id : ℕ) (risk hazard : SideGuidelines) → length (lines_of class id risk hazard) ≤ 192
 unfolding lines_of
-lines_most class id risk hazard = cases (eqb class 2)
+lines_most class id risk hazard = cases (eqb class 1)
   where
-    cases : (b : Bool) → length (line_of id Risk risk ++ cond b [] (line_of id Hazard hazard)) ≤ 192
-    cases true = simp length-append (omega (arith, line_most id Risk risk))
-    cases false = simp length-append (omega (arith, line_most id Risk risk, line_most id Hazard hazard))
+    cases : (b : Bool) → length (line_of id Risk risk ++ cond b (line_of id Hazard hazard) []) ≤ 192
+    cases false = simp length-append (omega (arith, line_most id Risk risk))
+    cases true = simp length-append (omega (arith, line_most id Risk risk, line_most id Hazard hazard))
 
 -- 192 bytes for each contaminant
 pub lines_to_most : (s : Scenario) (medium : ℕ) (site : List ℕ) (n : ℕ) → length (lines_to s medium site n) ≤ 192 * n

@@ -116,6 +116,29 @@ module _ (s : Scenario) (r : Contaminant) (h : Needed s) where
   unfolding known_values derived pathways_of table
   water_radionuclide_lem = rw (h.ef, h.ed) (simp (and-true, or-false))
 
+-- ---- tritium in water: as the code has it, and as the table
+module _ (s : Scenario) (r : Contaminant) (h : Needed s) where
+  abbrev shower : Bool
+  shower =
+      let x = s.house in
+      ((known_of x.f && known_of x.n) && (known_of x.s && known_of x.v)) && (known_of x.l && known_of x.w)
+
+  abbrev hours : Bool
+  hours = known_of s.contact.et || shower
+
+  abbrev oral : Bool
+  oral = known_of r.toxicity.sfo && known_of s.contact.ir
+
+  abbrev inhaled : Bool
+  inhaled = ((known_of r.toxicity.sfi && known_of s.contact.ira) && known_of s.house.m) && hours
+
+  abbrev through_skin : Bool
+  through_skin = ((known_of r.toxicity.sfo && known_of s.contact.sa) && known_of s.house.k) && known_of s.contact.et
+
+  pub water_tritium_lem : (oral || inhaled) || through_skin ≡ either_known (known_values s r) 2 3
+  unfolding known_values derived pathways_of table
+  water_tritium_lem = rw (h.ef, h.ed) (simp (and-true, or-false, and_assoc, or_assoc))
+
 -- ---- inputs that keep their rules
 pub needed : (s : Scenario) → lacks_factor s ≡ false → Needed s
 needed s h =

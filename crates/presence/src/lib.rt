@@ -7,7 +7,7 @@ ghost use Rattle.presence.specs.Presence.{known_values, either_known, chemical_o
 ghost use Rattle.inputs.specs.Rules.{Checked};
 ghost use Rattle.inputs.specs.Kinds.{medium_number, class_number};
 
-use inputs::{Class, Contaminant, Medium, Scenario};
+use inputs::{Class, Contaminant, Earlier, Medium, Scenario};
 use outcome::Refusal;
 
 // A chemical, by what is known of the ways into the body: with a slope factor (risk) or a reference dose (hazard).
@@ -19,8 +19,27 @@ fn chemical(r: Contaminant, swallowed: bool, breathed: bool) -> bool
     (swallowed & oral) | (breathed & inhaled)
 }
 
+// Tritium in water: ingestion, inhalation where H is known, by ET or by the shower, and skin.
+fn tritium(s: Scenario, r: Contaminant) -> bool
+    requires { Needed s }
+    ensures { result ≡ either_known (known_values s r) 2 3 }
+{
+    let k = s.contact;
+    let house = s.house;
+    let x = r.toxicity;
+    let volume = (house.s.m != 0) & (house.v.m != 0);
+    let air = (house.l.m != 0) & (house.w.m != 0);
+    let shower = (house.f.m != 0) & (house.n.m != 0) & volume & air;
+    let hours = (k.et.m != 0) | shower;
+    let oral = (x.sfo.m != 0) & (k.ir.m != 0);
+    let inhaled = (x.sfi.m != 0) & (k.ira.m != 0) & (house.m.m != 0) & hours;
+    let skin = (x.sfo.m != 0) & (k.sa.m != 0) & (house.k.m != 0) & (k.et.m != 0);
+    oral | inhaled | skin
+}
+
 // Whether a contaminant has a pathway on either side. In soil: ingestion, inhalation (of a chemical where VF or PEF is
-// known), and of a radionuclide external radiation; in water: ingestion, and of a chemical skin and vapour.
+// known), and of a radionuclide external radiation; in water: ingestion, and of a chemical skin and vapour, of
+// tritium inhalation and skin.
 fn has_pathway(s: Scenario, medium: Medium, class: Class, r: Contaminant) -> bool
     requires { Needed s }
     ensures { result ≡ either_known (known_values s r) (medium_number medium) (class_number class) }
@@ -45,15 +64,25 @@ fn has_pathway(s: Scenario, medium: Medium, class: Class, r: Contaminant) -> boo
             chemical(r, swallowed | skin, breathed)
         }
         (Class::Radionuclide, Medium::Water) => (x.sfo.m != 0) & swallowed,
+        (Class::Tritium, Medium::Soil) => false,
+        (Class::Tritium, Medium::Water) => tritium(s, r),
     }
 }
 
-// What is sent back of a record that keeps its rules and its order: 8.
+// What is sent back of a record that keeps its rules and its order, with what stands before it in its list: 12, then 8.
 #[tactic(auto, unfolding(guideline_rules::specs::Pathway::record_refusal))]
-pub fn record_refusal(s: Scenario, medium: u32, r: Contaminant) -> Result<(), Refusal>
+pub fn record_refusal(
+    s: Scenario,
+    medium: u32,
+    before: Earlier,
+    r: Contaminant,
+) -> Result<(), Refusal>
     requires { Checked s medium r }
-    ensures { result ≡ record_refusal s medium r }
+    ensures { result ≡ record_refusal s medium before r }
 {
+    if inputs::lacks_house(s, medium, r) | before.mixed(r) {
+        return Err(Refusal::House);
+    }
     let medium = Medium::of(medium);
     let class = Class::of(r.class);
     if !has_pathway(s, medium, class, r) {

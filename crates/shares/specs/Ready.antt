@@ -3,6 +3,7 @@ use Rattle.std.specs.Prelude.{◌≡◌, true, ℕ}
 use Rattle.std.specs.Coded.{Coded-set, coded_ℕ, coded_bool}
 use Rattle.rounding.specs.declared.Direction.TheVariants.{Down, Up}
 use Rattle.inputs.specs.declared.Scenario.{Scenario}
+use Rattle.inputs.specs.Kinds.{medium_number}
 use Rattle.inputs.specs.Rules.{scenario_fits}
 use Rattle.factors.specs.declared.prepared.Prepared.{Prepared}
 use Rattle.factors.specs.Stands.{FactorsFor}
@@ -14,6 +15,8 @@ pub record PlanFor (s : Scenario) (medium : ℕ) (above below : Prepared) : Type
   pub factors : FactorsFor s above.factors
   pub up : PreparedFor Up above.factors above
   pub down : PreparedFor Down above.factors below
+  pub up_medium : medium_number above.medium ≡ medium
+  pub down_medium : medium_number below.medium ≡ medium
 
 -- it has one proof at most, so that a struct may keep it in a ghost field
 pub one_plan : (s : Scenario) (medium : ℕ) (above below : Prepared) → IsProp (PlanFor s medium above below)

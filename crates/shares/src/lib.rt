@@ -57,11 +57,12 @@ fn planned(s: Scenario, medium: u32) -> Plan
     ensures { Planned s medium result }
 {
     let f = factors::numbers::scenario_numbers(s);
+    let kind = Medium::of(medium);
     Plan {
         scenario: s,
         medium,
-        up: factors::prepared::prepare(f, Direction::Up),
-        down: factors::prepared::prepare(f, Direction::Down),
+        up: factors::prepared::prepare(f, kind, Direction::Up),
+        down: factors::prepared::prepare(f, kind, Direction::Down),
     }
 }
 
@@ -79,11 +80,10 @@ impl Plan {
         requires { Workable self r }
         ensures { WorkedFor self r result }
     {
-        let medium = Medium::of(self.medium);
         let class = Class::of(r.class);
         let x = factors::numbers::contaminant_numbers(r);
-        let above = terms::pathways::terms_of(self.up, x, medium, class, Direction::Up);
-        let below = terms::pathways::terms_of(self.down, x, medium, class, Direction::Down);
+        let above = terms::pathways::terms_of(self.up, x, class, Direction::Up);
+        let below = terms::pathways::terms_of(self.down, x, class, Direction::Down);
         let c = factors::numbers::number_of(r.c);
         Worked {
             above,

@@ -5,6 +5,7 @@ use Prim.Native.Nat.{ℕ, ◌+◌, ◌≤◌, ◌<◌}
 use native.Mathlib.Omega.{arith}
 use lib.ListN.{length}
 use borrow.Author.Tests.{lt-ltb, le-ltb}
+use Rattle.inputs.specs.Earlier.{none_before}
 use Rattle.outcome.specs.declared.Refusal.TheVariants.{Room}
 use Rattle.std.specs.Prelude.{Result, Ok, Err, ⊤}
 use Rattle.std.specs.Result.{result_and}
@@ -44,7 +45,7 @@ module _ {site : List ℕ} {h : Header} (o : Opened site h) where
 
     -- every record keeps its rules and has a pathway
     pub checked_records : (k : ℕ) → 1 ≤ k → k < 1 + h.count → RecordOk h.scenario h.medium (record_at site k)
-    checked_records = check_ok h.scenario h.medium site h.count 1 0 z
+    checked_records = check_ok h.scenario h.medium site h.count 1 none_before z
 
     pub answer_room : (out : ℕ) → out < length site → site_answer site out ≡ refused Room 0
     unfolding with_room

@@ -3,6 +3,7 @@ use mathlib.Core.Path.{◌≡◌, sym, ap₂, ◌∙◌}
 use mathlib.Core.List.{List}
 use Prim.Native.Nat.{ℕ, ◌≤◌}
 use lib.ListN.{length}
+use Rattle.inputs.specs.Earlier.{none_before}
 use Rattle.std.specs.Prelude.{Ok}
 use Rattle.inputs.specs.declared.Scenario.{Scenario}
 use Rattle.words.specs.Bytes.{over}
@@ -26,7 +27,7 @@ use Rattle.site_rules.proofs.SameSums.{first_accepted}
 pub first_found : {site : List ℕ} {h : Header} → Opened site h → first_refusal h.scenario h.medium h.count ≡ Ok tt
 first_found {site} {h} o = first_accepted h.scenario h.medium h.count (count_some o) (count_most o) (checking o).fits (checking o).known
 
-module _ {site : List ℕ} {h : Header} {p : Plan} (o : Opened site h) (z : check_blocks h.scenario h.medium site h.count 1 0 ≡ Ok tt)
+module _ {site : List ℕ} {h : Header} {p : Plan} (o : Opened site h) (z : check_blocks h.scenario h.medium site h.count 1 none_before ≡ Ok tt)
     (b : Planned h.scenario h.medium p) where
   pub writing : Writing p site h.count
   writing = record {

@@ -5,12 +5,13 @@ ghost use Rattle.std.specs.Prelude.{◌≡◌, length};
 ghost use Rattle.site_rules.specs.Blocks.{length_ok};
 ghost use Rattle.site_rules.specs.Site.{site_answer};
 ghost use Rattle.site_rules.specs.Results.{site_left};
+ghost use Rattle.inputs.specs.Earlier.{none_before};
 ghost use Rattle.site_rules.proofs.Walk.{check_blocks};
 ghost use Rattle.site.specs.Check.{Checking};
 ghost use Rattle.site_rules.specs.Passed.{Opened};
 
 use block_rules::{BLOCK_SIZE, Header};
-use inputs::Scenario;
+use inputs::{Earlier, Scenario};
 use outcome::{Refusal, Refused, located};
 use sum_rules::Sums;
 
@@ -31,15 +32,15 @@ fn length_ok(n: usize) -> bool
 // is worked out before the whole site is checked.
 fn check_blocks(site: &[u8], s: Scenario, medium: u32, count: u32) -> Result<(), Refused>
     requires { Checking s medium site.now count }
-    ensures { result ≡ check_blocks s medium site.now count 1 0 }
+    ensures { result ≡ check_blocks s medium site.now count 1 none_before }
 {
-    let mut previous: u32 = 0;
+    let mut before = Earlier::NONE;
     for k in 0..count {
         let place = k + 1;
         let at = BLOCK_SIZE * (place as usize);
-        let r = located(blocks::read_contaminant(site, at, place, previous), place)?;
-        located(presence::record_refusal(s, medium, r), place)?;
-        previous = r.id;
+        let r = located(blocks::read_contaminant(site, at, place, before.id), place)?;
+        located(presence::record_refusal(s, medium, before, r), place)?;
+        before = before.next(r);
     }
     Ok(())
 }

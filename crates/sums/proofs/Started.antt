@@ -6,6 +6,7 @@ use borrow.Author.Tests.{leb-true}
 use Rattle.outcome.specs.declared.Refused.{Refused}
 use Rattle.outcome.specs.Outcome.{located}
 use Rattle.outcome.proofs.Tests.{tests_refused}
+use Rattle.inputs.specs.Earlier.{none_before}
 use Rattle.inputs.specs.declared.Scenario.{Scenario}
 use Rattle.inputs.specs.declared.Contaminant.{Contaminant}
 use Rattle.inputs.specs.Rules.{lacks_factor}
@@ -21,7 +22,7 @@ use Rattle.sums.proofs.States.{none_ready}
 -- a list that is refused before its first record
 pub refused_first : (s : Scenario) (medium : ℕ) (rs : List Contaminant) {r : Refused} → located (first_refusal s medium (length rs)) 0 ≡ Err r → sums_of s medium rs ≡ Err r
 unfolding sums_of
-refused_first s medium rs e = tests_refused {x = first_refusal s medium (length rs)} refl 0 (walk s medium rs 1 0 start start) e
+refused_first s medium rs e = tests_refused {x = first_refusal s medium (length rs)} refl 0 (walk s medium rs 1 none_before start start) e
 
 module _ {s : Scenario} {medium : ℕ} (n : ℕ) {p : Plan} (h : Planned s medium p) (z : first_refusal s medium n ≡ Ok tt) where
   tests : FirstPassed s medium n

@@ -38,11 +38,11 @@ module _ {p : Plan} {t : State} {r : Contaminant} {e : Refused} where
   unfolding answer_from walk
   stopped_field h k = record { same = λ rs. rw (h, k) refl }
 
-  pub stopped_order : contaminant_fits r ≡ true → leb r.id t.previous ≡ true → e ≡ concerning Order t.place → Stopped p t r e
+  pub stopped_order : contaminant_fits r ≡ true → leb r.id t.before.id ≡ true → e ≡ concerning Order t.place → Stopped p t r e
   unfolding answer_from walk
   stopped_order h k q = record { same = λ rs. rw (h, k, q) refl }
 
-  pub stopped_record : contaminant_fits r ≡ true → leb r.id t.previous ≡ false → {y : Result ⊤ Refusal} → y ≡ record_refusal p.scenario p.medium r →
+  pub stopped_record : contaminant_fits r ≡ true → leb r.id t.before.id ≡ false → {y : Result ⊤ Refusal} → y ≡ record_refusal p.scenario p.medium t.before r →
       located y t.place ≡ Err e → Stopped p t r e
   unfolding answer_from walk
   stopped_record h k q l = record { same = λ rs. rw (h, k) (tests_refused q t.place _ l) }

@@ -7,6 +7,7 @@ use Rattle.rounding.specs.declared.Direction.TheVariants.{Down, Up}
 use Rattle.rounding.specs.declared.Number.{Number}
 use Rattle.rounding.specs.Operations.{sum_of}
 use Rattle.std.specs.Prelude.{Ok}
+use Rattle.inputs.specs.Earlier.{before_next}
 use Rattle.inputs.specs.declared.Contaminant.{Contaminant}
 use Rattle.inputs.specs.Rules.{most_contaminants}
 use Rattle.factors.specs.Widths.{share_width, sum_width}
@@ -97,9 +98,9 @@ module _ {p : Plan} {r : Contaminant} {w : Worked} (h : Workable p r) (k : Worke
 pub workable : {p : Plan} {t : State} {r : Contaminant} → Advancing p t r → Workable p r
 workable h = record { known = h.good.known; contaminant = h.fits }
 
-module _ {p : Plan} {t : State} {r : Contaminant} (h : Advancing p t r) (z : record_refusal p.scenario p.medium r ≡ Ok tt) {y : Runs} (n : NextRuns p r t.place t.runs y) where
+module _ {p : Plan} {t : State} {r : Contaminant} (h : Advancing p t r) (z : record_refusal p.scenario p.medium t.before r ≡ Ok tt) {y : Runs} (n : NextRuns p r t.place t.runs y) where
   abbrev pub after : State
-  after = record { place = t.place + 1; previous = r.id; runs = y }
+  after = record { place = t.place + 1; before = before_next t.before r; runs = y }
 
   same_answer : (rs : List Contaminant) → answer_from p t (r ∷ rs) ≡ answer_from p after rs
   unfolding answer_from walk

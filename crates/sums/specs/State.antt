@@ -6,6 +6,7 @@ use Rattle.decimal.specs.Decimal.{decimal_of}
 use Rattle.outcome.specs.declared.Refused.{Refused}
 use Rattle.inputs.specs.declared.Scenario.{Scenario}
 use Rattle.inputs.specs.declared.Contaminant.{Contaminant}
+use Rattle.inputs.specs.Earlier.{none_before}
 use Rattle.inputs.specs.Rules.{contaminant_fits, most_contaminants, lacks_factor}
 use Rattle.factors.specs.Widths.{share_width, sum_width}
 use Rattle.formulas.specs.Side.{Risk, Hazard}
@@ -24,7 +25,7 @@ use Rattle.shares.specs.Plan.{no_runs, running_of}
 
 -- the answer from this state with the rest of the records
 unfoldable pub answer_from : Plan → State → List Contaminant → Result Sums Refused
-answer_from p t rs = walk p.scenario p.medium rs t.place t.previous (running_of t.runs.risk) (running_of t.runs.hazard)
+answer_from p t rs = walk p.scenario p.medium rs t.place t.before (running_of t.runs.risk) (running_of t.runs.hazard)
 
 -- the places of the rest end at 120
 pub record Room (t : State) (rs : List Contaminant) : Type 0 where
@@ -66,13 +67,13 @@ Stepped p t r x = MatchResult x (Moved p t r) (Stopped p t r)
 
 -- ---- what the parts of a step make
 abbrev pub first_of : State
-first_of = record { place = 1; previous = 0; runs = no_runs }
+first_of = record { place = 1; before = none_before; runs = no_runs }
 
 pub record Advancing (p : Plan) (t : State) (r : Contaminant) : Type 0 where
   pub good : Good p t
   pub place : t.place ≤ most_contaminants
   pub fits : contaminant_fits r ≡ true
-  pub rising : leb r.id t.previous ≡ false
+  pub rising : leb r.id t.before.id ≡ false
 
 -- a number that can be compared by its worth
 abbrev pub Comparable : Number → Type 0

@@ -8,7 +8,7 @@ ghost use Rattle.decimal.specs.Decimal.{decimal_of};
 ghost use Rattle.shares.specs.Plan.{no_runs};
 ghost use Rattle.sums.specs.State.{Good, Stepped, answer_from, first_of, Advancing, Comparable, SideReady, RunsReady, side_sums_of, reported_of};
 
-use inputs::{Contaminant, MOST_CONTAMINANTS, contaminant_fits};
+use inputs::{Contaminant, Earlier, MOST_CONTAMINANTS, contaminant_fits};
 use outcome::{Refusal, Refused, located};
 use presence::record_refusal;
 use rounding::{Direction, Number};
@@ -16,11 +16,12 @@ use shares::{Plan, Runs, SideRun};
 use sum_rules::{SideSums, Sums, Verdict};
 use terms::pathways::total;
 
-// The state of the list call between two records: the place of the next record, the id before it, the running sums.
+// The state of the list call between two records: the place of the next record, what stands before it, the running
+// sums.
 #[derive(Clone, Copy)]
 pub struct State {
     pub place: u32,
-    pub previous: u32,
+    pub before: Earlier,
     pub runs: Runs,
 }
 
@@ -75,7 +76,7 @@ pub fn first() -> State
 {
     State {
         place: 1,
-        previous: 0,
+        before: Earlier::NONE,
         runs: no_runs(),
     }
 }
@@ -85,7 +86,7 @@ fn advance(p: Plan, t: State, r: Contaminant) -> Result<State, Refused>
     requires { Advancing p t r }
     ensures { Stepped p t r result }
 {
-    located(record_refusal(p.scenario, p.medium, r), t.place)?;
+    located(record_refusal(p.scenario, p.medium, t.before, r), t.place)?;
     let w = p.work(r);
     let risk = total(w.above.risk, Direction::Up);
     let hazard = total(w.above.hazard, Direction::Up);
@@ -93,7 +94,7 @@ fn advance(p: Plan, t: State, r: Contaminant) -> Result<State, Refused>
     shares::add_shares(&mut runs, w, risk, hazard);
     Ok(State {
         place: t.place + 1,
-        previous: r.id,
+        before: t.before.next(r),
         runs,
     })
 }
@@ -109,7 +110,7 @@ pub fn step(p: Plan, t: State, r: Contaminant) -> Result<State, Refused>
     if !contaminant_fits(r) {
         return Err(Refusal::Field.in_block(t.place));
     }
-    if r.id <= t.previous {
+    if r.id <= t.before.id {
         return Err(Refusal::Order.in_block(t.place));
     }
     advance(p, t, r)

@@ -1,11 +1,12 @@
 -- The texts of what the single guideline, the list call and the built-in scenarios send back, and the operations on decimals.
-use Rattle.std.specs.Prelude.{ℕ, ◌/◌, ◌%◌, ◌==◌, if◌then◌else◌, List, [], ◌∷◌, ◌++◌, Result}
+use Rattle.std.specs.Prelude.{ℕ, ◌/◌, ◌%◌, ◌==◌, if◌then◌else◌, List, ◌++◌, Result}
 use Rattle.rounding.specs.declared.Direction.{Direction}
 use Rattle.rounding.specs.declared.Direction.TheVariants.{Down, Up}
 use Rattle.decimal.specs.declared.Decimal.{Decimal}
 use Rattle.decimal.specs.Decimal.{mul_of, div_of, add_of, working_of}
 use Rattle.outcome.specs.declared.Refused.{Refused}
 use Rattle.outcome.specs.Outcome.{number_of, block_of}
+use Rattle.inputs.specs.Inputs.{scenario_decimals}
 use Rattle.inputs.specs.BuiltIn.{scenario_sent}
 use Rattle.inputs.specs.declared.Scenario.{Scenario}
 use Rattle.formulas.specs.Side.{Risk, Hazard}
@@ -35,13 +36,9 @@ sums_text a =
     four_text (side_sent a Risk).lower (side_sent a Risk).upper (side_sent a Hazard).lower (side_sent a Hazard).upper ++
     next_text (side_sent a Risk).verdict ++ next_text (side_sent a Hazard).verdict
 
--- the twelve factors of a scenario
-abbrev pub factors_text : Scenario → List ℕ
-factors_text s =
-    all_text (
-    s.exposure.ef ∷ s.exposure.ed ∷ s.exposure.bw ∷ s.exposure.at ∷
-    s.contact.ir ∷ s.contact.ira ∷ s.contact.pef ∷ s.contact.et ∷
-    s.contact.rf ∷ s.contact.sa ∷ s.targets.tr ∷ s.targets.thi ∷ [])
+-- the factors of a scenario
+unfoldable pub factors_text : Scenario → List ℕ
+factors_text s = all_text (scenario_decimals s)
 
 -- refusal, block, factors
 abbrev pub built_in_text : Result Scenario Refused → List ℕ

@@ -80,28 +80,34 @@ fn print_sums<W: Write>(output: &mut W, a: Result<Sums, Refused>) -> io::Result<
     }
 }
 
-// Prints the twelve factors of a scenario.
+// Prints the factors of a scenario.
+#[tactic(auto, unfolding(crate::specs::Sent::factors_text))]
 fn print_factors<W: Write>(output: &mut W, s: Scenario) -> io::Result<()>
     ensures { OnOk result (Appends (W.contents output.old) (W.contents output.new) (factors_text s)) }
 {
     let x = s.exposure;
     let c = s.contact;
     let t = s.targets;
+    let h = s.house;
     print_all(
         output,
         &[
-            x.ef, x.ed, x.bw, x.at, c.ir, c.ira, c.pef, c.et, c.rf, c.sa, t.tr, t.thi,
+            x.ef, x.ed, x.bw, x.at, c.ir, c.ira, c.pef, c.et, c.rf, c.sa, t.tr, t.thi, h.m, h.f,
+            h.n, h.s, h.v, h.l, h.w, h.k,
         ],
     )
 }
 
 // Prints a built-in scenario: refusal, block, factors, zeros where it is refused.
-#[tactic(auto, unfolding(inputs::specs::Inputs::scenario_of, inputs::specs::Inputs::exposure_of, inputs::specs::Inputs::contact_of, inputs::specs::Inputs::targets_of))]
+#[tactic(auto, unfolding(inputs::specs::Inputs::scenario_of, inputs::specs::Inputs::exposure_of, inputs::specs::Inputs::contact_of, inputs::specs::Inputs::targets_of, inputs::specs::Inputs::house_of))]
 fn print_built_in<W: Write>(output: &mut W, b: Result<Scenario, Refused>) -> io::Result<()>
     ensures { OnOk result (Appends (W.contents output.old) (W.contents output.new) (built_in_text b)) }
 {
     print_answered(output, b)?;
-    print_factors(output, b.unwrap_or(Scenario::BLANK))
+    match b {
+        Ok(s) => print_factors(output, s),
+        Err(_) => print_factors(output, Scenario::BLANK),
+    }
 }
 
 // Call 1, on a header block and a contaminant block: the single guideline.

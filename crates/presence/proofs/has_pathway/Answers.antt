@@ -1,4 +1,5 @@
 -- `presence::has_pathway`: each row is what the table says.
+use Rattle.formulas.specs.Formula.{table, pathways_of}
 use Rattle.presence.proofs.KnownValues.{soil_chemical_lem, soil_radionuclide_lem, water_chemical_lem, water_radionuclide_lem}
 use Rattle.presence.proofs.has_pathway.Goals as goal
 
@@ -15,3 +16,11 @@ returns-in-Chemical-Water c =
 
 pub returns-in-Radionuclide-Water : goal.returns-in-Radionuclide-Water
 returns-in-Radionuclide-Water c = let row = c.in-Radionuclide-Water in rw (row.is-0, row.is-1) (water_radionuclide_lem c.args.s c.args.r c.requires)
+
+-- tritium has no row in soil
+pub returns-in-Tritium-Soil : goal.returns-in-Tritium-Soil
+unfolding pathways_of table
+returns-in-Tritium-Soil c = let row = c.in-Tritium-Soil in rw (row.is-0, row.is-1)
+
+pub returns-in-Tritium-Water : goal.returns-in-Tritium-Water
+returns-in-Tritium-Water c = let row = c.in-Tritium-Water in rw (row.is-0, row.is-1, c.tritium.ensures)

@@ -21,4 +21,5 @@ returns c =
     let p = c.requires in
     let sums =
     next_runs (workable p) c.work-w.ensures c.total-risk.ensures.0 c.total-hazard.ensures.0 p.good.place p.good.runs c.add_shares.ensures in
-    moved_steps p (tests_passed c.record_refusal.ensures c.args.t.place (sym c.in_ok-located.ensures)) sums
+    rw c.next.ensures
+    (moved_steps p (tests_passed c.record_refusal.ensures c.args.t.place (sym c.in_ok-located.ensures)) sums)

@@ -12,7 +12,7 @@ returns-then-not-contaminant_fits c = stopped_field (sym c.contaminant_fits.ensu
 
 pub returns-then-r-t : goal.returns-then-r-t
 returns-then-r-t c =
-    stopped_order (sym c.contaminant_fits.ensures ∙ c.if-not-contaminant_fits.false) (le-leb c.args.r.id c.args.t.previous c.if-r-t.true)
+    stopped_order (sym c.contaminant_fits.ensures ∙ c.if-not-contaminant_fits.false) (le-leb c.args.r.id c.args.t.before.id c.if-r-t.true)
     c.in_block-then-r-t.ensures
 
 pub advance-requires : goal.advance-requires
@@ -20,5 +20,5 @@ advance-requires c = record {
   good = c.requires;
   place = c.if-t-gt-MOST_CONTAMINANTS.false;
   fits = sym c.contaminant_fits.ensures ∙ c.if-not-contaminant_fits.false;
-  rising = lt-leb c.args.r.id c.args.t.previous c.if-r-t.false;
+  rising = lt-leb c.args.r.id c.args.t.before.id c.if-r-t.false;
 }
