@@ -8,6 +8,7 @@ use Rattle.std.specs.Prelude.{Result, Ok, Err}
 use Rattle.outcome.specs.declared.Refused.{Refused}
 use Rattle.outcome.specs.Outcome.{number_of, block_of, refused}
 use Rattle.outcome.specs.declared.Refusal.TheVariants.{Field, Room}
+use Rattle.inputs.specs.Earlier.{none_before}
 use Rattle.inputs.specs.declared.Scenario.{Scenario}
 use Rattle.inputs.specs.declared.Contaminant.{Contaminant}
 use Rattle.inputs.specs.Rules.{scenario_refusal, contaminant_fits}
@@ -47,7 +48,7 @@ unfolding guideline_of
 guideline_block s medium r =
     passing_block (scenario_refusal s medium) 0 _ (omega arith)
     (either_block (contaminant_fits r) _ (refused Field 1)
-    (passing_block (record_refusal s medium r) 1 (Ok (both_sides s medium r)) (omega arith) (omega arith)) (omega arith))
+    (passing_block (record_refusal s medium none_before r) 1 (Ok (both_sides s medium r)) (omega arith) (omega arith)) (omega arith))
 
 room_block : (room : ℕ) (a : Result Guidelines Refused) → block_of a ≤ 1 → block_of (with_room room a) ≤ 1
 room_block room (Ok g) h = either_block (ltb room 64) (refused Room 0) (Ok g) (omega arith) h
