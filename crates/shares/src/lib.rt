@@ -82,8 +82,8 @@ impl Plan {
     {
         let class = Class::of(r.class);
         let x = factors::numbers::contaminant_numbers(r);
-        let above = terms::pathways::terms_of(self.up, x, class, Direction::Up);
-        let below = terms::pathways::terms_of(self.down, x, class, Direction::Down);
+        let above = terms::pathways::terms_of(&self.up, &x, class, Direction::Up);
+        let below = terms::pathways::terms_of(&self.down, &x, class, Direction::Down);
         let c = factors::numbers::number_of(r.c);
         Worked {
             above,

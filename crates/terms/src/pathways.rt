@@ -207,11 +207,11 @@ fn no_side() -> PathwayTerms
 }
 
 // The terms of both sides for a class, in the medium that was prepared for.
-pub fn terms_of(p: Prepared, t: ContaminantNumbers, class: Class, dir: Direction) -> Terms
-    requires { Ready dir p t }
-    ensures { TermsFor dir p.factors t (medium_number p.medium) (class_number class) result }
+pub fn terms_of(p: &Prepared, t: &ContaminantNumbers, class: Class, dir: Direction) -> Terms
+    requires { Ready dir p.now t.now }
+    ensures { TermsFor dir p.now.factors t.now (medium_number p.now.medium) (class_number class) result }
 {
-    let given = Given { p, t, dir };
+    let given = Given { p: *p, t: *t, dir };
     match (class, p.medium) {
         (Class::Chemical, Medium::Soil) => {
             let b = given.air();
