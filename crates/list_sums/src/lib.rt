@@ -15,7 +15,7 @@ pub fn sums_of_list(s: Scenario, medium: u32, list: &[Contaminant]) -> Result<Su
     let p = shares::begin(s, medium, list.len())?;
     let mut t = sums::first();
     for r in list {
-        t = sums::step(p, t, *r)?;
+        t = sums::step(&p, t, *r)?;
     }
-    Ok(sums::finish(p, t))
+    Ok(sums::finish(&p, t))
 }

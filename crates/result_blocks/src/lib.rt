@@ -15,9 +15,9 @@ use shares::{Plan, Runs};
 use sum_rules::Sums;
 
 // Works out the contaminant of one block, writes its result block and adds its shares to the sums.
-fn put_block(site: &[u8], p: Plan, place: u32, runs: &mut Runs, out: &mut [u8])
-    requires { WritingOne p site.now place runs.old × (block_size ≤ length out.old) }
-    ensures { NextRuns p (record_at site.now place) place runs.old runs.new × (out.new ≡ over (result_at p.scenario p.medium site.now place) out.old) }
+fn put_block(site: &[u8], p: &Plan, place: u32, runs: &mut Runs, out: &mut [u8])
+    requires { WritingOne p.now site.now place runs.old × (block_size ≤ length out.old) }
+    ensures { NextRuns p.now (record_at site.now place) place runs.old runs.new × (out.new ≡ over (result_at p.now.scenario p.now.medium site.now place) out.old) }
 {
     let at = BLOCK_SIZE * (place as usize);
     let from = at + 4;
@@ -32,9 +32,9 @@ fn put_block(site: &[u8], p: Plan, place: u32, runs: &mut Runs, out: &mut [u8])
 }
 
 // The result blocks of all contaminants, each in its own part of the output, and their sums.
-fn put_blocks(site: &[u8], p: Plan, count: u32, out: &mut [u8]) -> Runs
-    requires { Writing p site.now count × (block_size * count + block_size ≤ length out.old) }
-    ensures { AllAdded p site.now count result × (out.new ≡ over (take block_size out.old ++ results_to p.scenario p.medium site.now count) out.old) }
+fn put_blocks(site: &[u8], p: &Plan, count: u32, out: &mut [u8]) -> Runs
+    requires { Writing p.now site.now count × (block_size * count + block_size ≤ length out.old) }
+    ensures { AllAdded p.now site.now count result × (out.new ≡ over (take block_size out.old ++ results_to p.now.scenario p.now.medium site.now count) out.old) }
 {
     let mut runs = sums::no_runs();
     for k in 0..count {
@@ -47,9 +47,9 @@ fn put_blocks(site: &[u8], p: Plan, count: u32, out: &mut [u8]) -> Runs
 }
 
 // The result blocks and, at place 0, the summary.
-pub fn put_results(site: &[u8], p: Plan, count: u32, out: &mut [u8]) -> Sums
-    requires { Writing p site.now count × (block_size * count + block_size ≤ length out.old) }
-    ensures { (Ok result ≡ all_sums p.scenario p.medium (records_from site.now count 1)) × (out.new ≡ over (blocks_of p.scenario p.medium site.now count result) out.old) }
+pub fn put_results(site: &[u8], p: &Plan, count: u32, out: &mut [u8]) -> Sums
+    requires { Writing p.now site.now count × (block_size * count + block_size ≤ length out.old) }
+    ensures { (Ok result ≡ all_sums p.now.scenario p.now.medium (records_from site.now count 1)) × (out.new ≡ over (blocks_of p.now.scenario p.now.medium site.now count result) out.old) }
 {
     let runs = put_blocks(site, p, count, out);
     let a = sums::reported(p, runs);

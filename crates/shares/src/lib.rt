@@ -52,7 +52,7 @@ fn first_refusal(s: Scenario, medium: u32, n: usize) -> Result<(), Refusal>
 }
 
 // The plan of a scenario and a medium that keep their rules.
-fn planned(s: Scenario, medium: u32) -> Plan
+pub fn planned(s: Scenario, medium: u32) -> Plan
     requires { scenario_fits s medium ≡ true }
     ensures { Planned s medium result }
 {
@@ -76,9 +76,9 @@ pub fn begin(s: Scenario, medium: u32, n: usize) -> Result<Plan, Refused>
 
 impl Plan {
     // The terms of a record.
-    pub fn work(self, r: Contaminant) -> Worked
-        requires { Workable self r }
-        ensures { WorkedFor self r result }
+    pub fn work(&self, r: Contaminant) -> Worked
+        requires { Workable self.now r }
+        ensures { WorkedFor self.now r result }
     {
         let class = Class::of(r.class);
         let x = factors::numbers::contaminant_numbers(r);

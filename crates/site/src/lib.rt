@@ -56,8 +56,8 @@ fn evaluate_blocks(site: &[u8], h: Header, out: &mut [u8]) -> Result<Sums, Refus
     if out.len() < site.len() {
         return Err(Refusal::Room.in_block(0));
     }
-    let p = shares::begin(s, h.medium, count as usize)?;
-    Ok(result_blocks::put_results(site, p, count, out))
+    let p = shares::planned(s, h.medium);
+    Ok(result_blocks::put_results(site, &p, count, out))
 }
 
 // The whole site: its sums and verdicts, and its result blocks in the output where it is accepted.

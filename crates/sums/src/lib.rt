@@ -82,9 +82,9 @@ pub fn first() -> State
 }
 
 // The state after a record that keeps its rules and its order, or the refusal of its own tests.
-fn advance(p: Plan, t: State, r: Contaminant) -> Result<State, Refused>
-    requires { Advancing p t r }
-    ensures { Stepped p t r result }
+fn advance(p: &Plan, t: State, r: Contaminant) -> Result<State, Refused>
+    requires { Advancing p.now t r }
+    ensures { Stepped p.now t r result }
 {
     located(record_refusal(p.scenario, p.medium, t.before, r), t.place)?;
     let w = p.work(r);
@@ -100,9 +100,9 @@ fn advance(p: Plan, t: State, r: Contaminant) -> Result<State, Refused>
 }
 
 // The state after one more record, or its refusal, in its own block. After the last place the state stays as it is.
-pub fn step(p: Plan, t: State, r: Contaminant) -> Result<State, Refused>
-    requires { Good p t }
-    ensures { Stepped p t r result }
+pub fn step(p: &Plan, t: State, r: Contaminant) -> Result<State, Refused>
+    requires { Good p.now t }
+    ensures { Stepped p.now t r result }
 {
     if MOST_CONTAMINANTS < t.place {
         return Ok(t);
@@ -129,9 +129,9 @@ fn side_sums(x: SideRun, target: Number) -> SideSums
 }
 
 // The sums of both sides, which an accepted call answers.
-pub fn reported(p: Plan, x: Runs) -> Sums
+pub fn reported(p: &Plan, x: Runs) -> Sums
     requires { RunsReady sum_width x }
-    ensures { result ≡ reported_of p.scenario x }
+    ensures { result ≡ reported_of p.now.scenario x }
 {
     let targets = p.up.factors.targets;
     Sums {
@@ -141,9 +141,9 @@ pub fn reported(p: Plan, x: Runs) -> Sums
 }
 
 // The sums of both sides after the last record.
-pub fn finish(p: Plan, t: State) -> Sums
-    requires { Good p t }
-    ensures { Ok result ≡ answer_from p t [] }
+pub fn finish(p: &Plan, t: State) -> Sums
+    requires { Good p.now t }
+    ensures { Ok result ≡ answer_from p.now t [] }
 {
     reported(p, t.runs)
 }

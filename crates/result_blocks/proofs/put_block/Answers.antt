@@ -43,7 +43,7 @@ pub returns : goal.returns
 returns c =
     let site = c.args.site.now in
     let place = c.args.place in
-    let p = c.args.p in
+    let p = c.args.p.now in
     let out = c.args.out.now in
     let pre = c.requires.0 in
     let r = c.get_contaminant-r.result in

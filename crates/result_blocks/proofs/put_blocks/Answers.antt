@@ -10,15 +10,15 @@ use Rattle.result_blocks.proofs.put_blocks.Goals as goal
 pub loop-k-init : goal.loop-k-init
 loop-k-init c =
     let a = c.args in record {
-      sums = along_first a.p a.site.now a.count c.no_runs-runs.ensures;
-      written = none_written a.p.scenario a.p.medium a.site.now a.out.now (omega (arith, c.requires.1));
+      sums = along_first a.p.now a.site.now a.count c.no_runs-runs.ensures;
+      written = none_written a.p.now.scenario a.p.now.medium a.site.now a.out.now (omega (arith, c.requires.1));
     }
 
 pub slice_bounds-put_block-end : goal.slice_bounds-put_block-end
 slice_bounds-put_block-end c =
     let a = c.args in
     let m : length c.loop-k.out ≡ length a.out.now =
-    out_long a.p.scenario a.p.medium a.site.now a.out.now c.loop-k.out [] c.loop-k.k
+    out_long a.p.now.scenario a.p.now.medium a.site.now a.out.now c.loop-k.out [] c.loop-k.k
     (omega (arith, c.loop-k-test.true, c.requires.1)) c.loop-k.invariant.written in
     omega (arith, m, c.requires.1, c.loop-k-test.true)
 
@@ -29,7 +29,7 @@ put_block-requires c =
     let below = c.loop-k-test.true in
     let args = c.args in
     let m : length c.loop-k.out ≡ length args.out.now =
-    out_long args.p.scenario args.p.medium args.site.now args.out.now c.loop-k.out [] k (omega (arith, below, c.requires.1)) c.loop-k.invariant.written in
+    out_long args.p.now.scenario args.p.now.medium args.site.now args.out.now c.loop-k.out [] k (omega (arith, below, c.requires.1)) c.loop-k.invariant.written in
     let a : ℕ = 512 * (k + 1) in
     let rest = drop a c.loop-k.out in
     let q : length (take (a + 512 - a) rest) ≡ a + 512 - a = length-take-le (a + 512 - a) rest (simp length-drop (omega (arith, m, c.requires.1, below))) in (
@@ -49,8 +49,8 @@ loop-k-preserved c =
     let site = a.site.now in
     let k = c.loop-k.k in
     let below = c.loop-k-test.true in record {
-      sums = along_next a.p site a.count k below c.loop-k.invariant.sums c.put_block.ensures.0;
-      written = block_lent a.p.scenario a.p.medium site a.out.now c.loop-k.out c.put_block.new.out k
+      sums = along_next a.p.now site a.count k below c.loop-k.invariant.sums c.put_block.ensures.0;
+      written = block_lent a.p.now.scenario a.p.now.medium site a.out.now c.loop-k.out c.put_block.new.out k
           (omega (arith, below, c.requires.1)) c.loop-k.invariant.written (512 * (k + 1)) (512 * (k + 1) + 512) refl refl c.put_block.ensures.1;
     }
 
@@ -60,6 +60,6 @@ returns c =
     let site = a.site.now in
     let out = a.out.now in
     let e : c.loop-k.k ≡ a.count = omega (arith, c.loop-k.invariant.sums.place, c.loop-k-test.false) in (
-      along_last a.p site a.count c.loop-k.k e c.loop-k.invariant.sums,
-      c.loop-k.invariant.written ∙ ap (λ (k : ℕ). over (take 512 out ++ results_to a.p.scenario a.p.medium site k) out) e,
+      along_last a.p.now site a.count c.loop-k.k e c.loop-k.invariant.sums,
+      c.loop-k.invariant.written ∙ ap (λ (k : ℕ). over (take 512 out ++ results_to a.p.now.scenario a.p.now.medium site k) out) e,
     )

@@ -36,13 +36,13 @@ reported-a-requires c =
 pub slice_bounds-put_summary-end : goal.slice_bounds-put_summary-end
 slice_bounds-put_summary-end c =
     let a = c.args in
-    let n = long-out a.p a.site.now a.count a.out.now c.put_blocks-runs.ensures.1 c.requires.1 in
+    let n = long-out a.p.now a.site.now a.count a.out.now c.put_blocks-runs.ensures.1 c.requires.1 in
     omega (arith, n, c.requires.1)
 
 pub put_summary-requires : goal.put_summary-requires
 put_summary-requires c =
     let a = c.args in
-    let n = long-out a.p a.site.now a.count a.out.now c.put_blocks-runs.ensures.1 c.requires.1 in
+    let n = long-out a.p.now a.site.now a.count a.out.now c.put_blocks-runs.ensures.1 c.requires.1 in
     let q = length-take-le 512 c.put_blocks-runs.new.out (omega (arith, n, c.requires.1)) in
     omega (arith, q)
 
@@ -50,6 +50,6 @@ pub returns : goal.returns
 returns c =
     let a = c.args in
     let added = c.put_blocks-runs.ensures.0 in (
-      ap Ok c.reported-a.ensures ∙ ap₂ (accepted a.p.scenario) added.risk added.hazard,
-      written a.p a.site.now a.count a.out.now c.put_blocks-runs.ensures.1 c.requires.1 _ _ c.put_summary.ensures,
+      ap Ok c.reported-a.ensures ∙ ap₂ (accepted a.p.now.scenario) added.risk added.hazard,
+      written a.p.now a.site.now a.count a.out.now c.put_blocks-runs.ensures.1 c.requires.1 _ _ c.put_summary.ensures,
     )

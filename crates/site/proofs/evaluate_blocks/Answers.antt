@@ -1,11 +1,10 @@
 -- `site::evaluate_blocks`: a refusal of a block or of the room leaves the output as it was; else the results are written.
 use Rattle.std.proofs.Common.{length, sym, ap, ◌∙◌, arith}
 use Rattle.std.specs.Prelude.{Err}
-use Rattle.outcome.proofs.Numbers.{not_both}
 use Rattle.outcome.proofs.Tests.{handed_back}
-use Rattle.site_rules.proofs.Opened.{site_long, left_refused}
+use Rattle.site_rules.proofs.Opened.{site_long, opened_fits, left_refused}
 use Rattle.site.proofs.Answers.{checking, answer_refused, answer_room}
-use Rattle.site.proofs.Planned.{first_found, writing, planned_sums}
+use Rattle.site.proofs.Planned.{writing, planned_sums}
 use Rattle.site.proofs.evaluate_blocks.Goals as goal
 
 pub check_blocks-requires : goal.check_blocks-requires
@@ -25,14 +24,14 @@ returns-then-out-site c =
     let e = answer_room c.requires (sym c.in_ok-check_blocks.ensures) (length out) c.if-out-site.true in
     (ap Err c.in_block.ensures ∙ sym e, sym (left_refused site out e))
 
-pub returns-in_err-p : goal.returns-in_err-p
-returns-in_err-p c = absurd (not_both (ap (λ x. Rattle.outcome.specs.Outcome.located x 0) (sym (first_found c.requires)) ∙ c.in_err-p.ensures))
+pub planned-p-requires : goal.planned-p-requires
+planned-p-requires c = opened_fits c.requires
 
 pub put_results-requires : goal.put_results-requires
 put_results-requires c =
-    (writing c.requires (sym c.in_ok-check_blocks.ensures) c.in_ok-p.ensures.0, omega (arith, site_long c.requires, c.if-out-site.false))
+    (writing c.requires (sym c.in_ok-check_blocks.ensures) c.planned-p.ensures, omega (arith, site_long c.requires, c.if-out-site.false))
 
 pub returns : goal.returns
 returns c =
-    planned_sums c.requires (sym c.in_ok-check_blocks.ensures) c.in_ok-p.ensures.0 c.args.out.now c.put_results.ensures.0 c.put_results.ensures.1
+    planned_sums c.requires (sym c.in_ok-check_blocks.ensures) c.planned-p.ensures c.args.out.now c.put_results.ensures.0 c.put_results.ensures.1
     c.if-out-site.false
