@@ -11,7 +11,9 @@ use Rattle.std.specs.Array.{list_steps}
 use Rattle.std.specs.Iterator.{Yields}
 use Rattle.std.specs.declared.option.Option.TheVariants.{Some}
 use Rattle.rounding.specs.Sizes.{bias}
+use borrow.Author.Tests.{eq-eqb}
 use Rattle.rounding.specs.declared.Direction.{Direction}
+use Rattle.rounding.specs.declared.Direction.TheVariants.{Up}
 use Rattle.rounding.specs.declared.Number.{Number}
 use Rattle.rounding.specs.Number.{Working}
 use Rattle.rounding.specs.Operations.{product_of, quotient_of, sum_of}
@@ -26,7 +28,7 @@ use Rattle.decimal.specs.Decimal.{zero_of, biased_of, decimal_of, mul_of, div_of
 use Rattle.decimal.proofs.OperandFacts.{Operand}
 use Rattle.decimal.proofs.Laws.{decimal_zero, working_is, nine_working}
 use Rattle.decimal.proofs.CoreOperations.{mul_core, div_core, add_core}
-use Rattle.decimal.proofs.Approximation.{Sized, sized_of}
+use Rattle.decimal.proofs.Approximation.{Sized, sized_of, fair_zero, working_fair, given_zero}
 use Rattle.inputs.specs.declared.Scenario.{Scenario}
 use Rattle.inputs.specs.Valid.{valid_of, all_valid}
 use Rattle.inputs.proofs.Tests.{and_split, valid_small}
@@ -34,7 +36,7 @@ use Rattle.factors.specs.declared.numbers.Factors.{Factors}
 use Rattle.factors.specs.Stands.{Stands, StandAll, FactorsFor, Inputs}
 use Rattle.factors.specs.Stands.StandAll.{end, next}
 use Rattle.factors.specs.Prepared.{Middle}
-use Rattle.decimal.proofs.Value.{Value, absent, known}
+use Rattle.decimal.proofs.Value.{Value, absent, known, value_zero}
 
 -- ---- what a number that stands for a decimal can be used for
 pub stands_operand : {w : ℕ} {r : Number} {d : Decimal} → w ≤ 990 → Stands w r d → Operand r
@@ -137,6 +139,13 @@ no_number = record { m = 0; x = bias - 8 }
 
 pub zero_stands : Stands input_width no_number zero_of
 zero_stands = record { is = refl; working = inl refl; most = lit< tt; low = lit≤ tt; high = lit≤ tt }
+
+-- the number of a valid decimal whose m is zero
+pub zero_number_stands : (d : Decimal) → valid_of d ≡ true → d.m ≡ 0 → Stands input_width no_number (working_of d)
+zero_number_stands d v e =
+    let k = valid_small d v in
+    let z = fair_zero (working_fair Up d k.digits k.low k.high) ∙ given_zero d ∙ eq-eqb d.m 0 e in
+    stands_is (sym (value_zero (stands_value (lit≤ tt) (number_stands d (nine_of (biased_of d)) v refl)) z)) zero_stands
 
 pub stands_at : {ns : List Number} {ds : List Decimal} → StandAll ns ds → (k : ℕ) → Stands input_width (get_or ns k no_number) (get_or ds k zero_of)
 stands_at end k = zero_stands

@@ -31,6 +31,9 @@ pub fn number_of(d: Decimal) -> Number
     requires { valid_of d ≡ true }
     ensures { Stands input_width result (working_of d) }
 {
+    if d.m == 0 {
+        return Number::ZERO;
+    }
     Number::from(d).working()
 }
 

@@ -3,7 +3,7 @@ use Rattle.std.proofs.Common.{ap, ◌∙◌, arith}
 use Rattle.rounding.specs.WorkingForm.{nine_of}
 use Rattle.rounding.specs.declared.Number.{Number}
 use Rattle.inputs.proofs.Tests.{valid_small}
-use Rattle.factors.proofs.StandsLaws.{number_stands}
+use Rattle.factors.proofs.StandsLaws.{number_stands, zero_number_stands}
 use Rattle.factors.proofs.numbers.number_of.Goals as goal
 
 pub working-requires : goal.working-requires
@@ -15,3 +15,6 @@ working-requires c =
 
 pub returns : goal.returns
 returns c = number_stands c.args.d c.working.result c.requires (c.working.ensures.0 ∙ ap nine_of c.from.ensures)
+
+pub returns-then-d-eq0 : goal.returns-then-d-eq0
+returns-then-d-eq0 c = zero_number_stands c.args.d c.requires c.if-d-eq0.true
