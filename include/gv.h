@@ -24,7 +24,7 @@ enum {
     GV_GUIDELINES = 64     /* bytes that gv_guideline writes: eight decimals */
 };
 
-/* What a call sends back: 0, or the number of one of the ten refusals, 1 to 8, 10 and 11. 9 is not used. */
+/* What a call sends back: 0, or the number of one of the eleven refusals, 1 to 8 and 10 to 12. 9 is not used. */
 enum {
     GV_ACCEPTED = 0,
     GV_LENGTH = 1,    /* the site's length is wrong */
@@ -36,7 +36,8 @@ enum {
     GV_ORDER = 7,     /* an id is not above the one before */
     GV_PATHWAY = 8,   /* a contaminant has no pathway on either side */
     GV_ROOM = 10,     /* the output is too short */
-    GV_SCENARIO = 11  /* there is no built-in scenario of that number */
+    GV_SCENARIO = 11, /* there is no built-in scenario of that number */
+    GV_HOUSE = 12     /* tritium and L or W zero, or in soil; or the later of a chemical and tritium in one site */
 };
 
 /* Verdict of a side. */
@@ -54,15 +55,18 @@ struct gv_decimal {
     uint16_t zero;
 };
 
-/* A header: medium 1 soil, 2 water; how many contaminants follow, 1 to 120; the scenario. Every byte of `zero` is 0, as it is
-   where a struct is initialized, = {0} or by names. */
+/* A header: medium 1 soil, 2 water; how many contaminants follow, 1 to 120; the scenario, its last eight decimals for tritium
+   in water. With tritium in the site sa is in square metres and ira in cubic metres an hour, otherwise in square centimetres and
+   cubic metres a day. Every byte of `zero` is 0, as it is where a struct is initialized, = {0} or by names. */
 struct gv_header {
     uint32_t medium, count;
     struct gv_decimal ef, ed, bw, at, ir, ira, pef, et, rf, sa, tr, thi;
-    uint8_t zero[396];
+    struct gv_decimal m, f, n, s, v, l, w, k;
+    uint8_t zero[332];
 };
 
-/* A contaminant: class 1 chemical, 2 radionuclide; id from 1 on; toxicity, volatilization, permeability, concentration. */
+/* A contaminant: class 1 chemical, 2 radionuclide, 3 tritium (in water, and in no site with a chemical); id from 1 on; toxicity,
+   volatilization, permeability, concentration. */
 struct gv_contaminant {
     uint32_t class_, id;
     struct gv_decimal sfo, sfi, sfx, rfdo, rfdi, vf, pc, c;
@@ -101,8 +105,8 @@ uint32_t gv_write_contaminant(uint8_t *out, size_t out_len, uint32_t place, cons
 /* The single guideline of one contaminant. header points to a struct gv_header, whose count is not looked at, contaminant to
    a struct gv_contaminant. Accepted: eight decimals in the first 64 bytes of out, risk by pathway 1, 2, 3 and in total, then
    hazard likewise, zero where absent; each is zero or has nine digits, and e is from -999 to 999. Refused: out as it was; 4 or
-   6 in block 0 for the header, 4 or 8 in block 1 for the contaminant, last 10. Returns the refusal number in bits 0 to 7 and
-   its block in 8 to 15. */
+   6 in block 0 for the header, 4, 12 or 8 in block 1 for the contaminant, last 10. Returns the refusal number in bits 0 to 7
+   and its block in 8 to 15. */
 uint64_t gv_guideline(const uint8_t *header, size_t header_len, const uint8_t *contaminant, size_t contaminant_len, uint8_t *out, size_t out_len);
 
 /* Evaluates a site. Accepted: a summary block and a result block for each contaminant in the first site_len bytes of out,
