@@ -4,3 +4,4 @@ pub mod ValueBounds
 pub mod InRange
 pub mod OnTheWay
 pub mod Presence
+pub mod HoursFigures

@@ -1,4 +1,4 @@
--- What the tests of a record say where none of them holds: it is not mixed with what stands before it, and standing alone it passes too.
+-- What the tests of a record say: 12 before 8; and where none of them holds, it is not mixed with what stands before it, and standing alone it passes too.
 -- Assumes nothing.
 use mathlib.Core.Path.{◌≡◌, refl, sym, ap₂}
 use mathlib.Core.Bool.{Bool, true, false, not, ◌||◌, and-false}
@@ -7,7 +7,7 @@ use Prim.Native.Nat.{ℕ}
 use Rattle.outcome.specs.declared.Refusal.TheVariants.{House, Pathway}
 use Rattle.outcome.specs.Outcome.{test, refused_by}
 use Rattle.outcome.proofs.Numbers.{not_both}
-use Rattle.std.specs.Prelude.{Ok}
+use Rattle.std.specs.Prelude.{Ok, Err}
 use Rattle.inputs.specs.declared.Scenario.{Scenario}
 use Rattle.inputs.specs.declared.Contaminant.{Contaminant}
 use Rattle.inputs.specs.declared.earlier.Earlier.{Earlier}
@@ -15,6 +15,12 @@ use Rattle.inputs.specs.declared.kind.Class.TheVariants.{Chemical, Tritium}
 use Rattle.inputs.specs.Rules.{is_class, lacks_house}
 use Rattle.inputs.specs.Earlier.{none_before, mixed}
 use Rattle.guideline_rules.specs.Pathway.{either_side, record_refusal}
+
+-- 12 comes before 8: of a record that is mixed, or is tritium without a house or in soil, whatever its pathways
+pub house_refused : (s : Scenario) (medium : ℕ) (before : Earlier) (r : Contaminant) → lacks_house s medium r || mixed before r ≡ true →
+    record_refusal s medium before r ≡ Err House
+unfolding record_refusal
+house_refused s medium before r e = rw e
 
 pub passed_unmixed : (s : Scenario) (medium : ℕ) (before : Earlier) (r : Contaminant) → record_refusal s medium before r ≡ Ok tt → mixed before r ≡ false
 unfolding record_refusal

@@ -5,12 +5,12 @@ use Rattle.rounding.specs.declared.Direction.TheVariants.{Up}
 use Rattle.decimal.specs.declared.Decimal.{Decimal}
 use Rattle.decimal.specs.Decimal.{zero_of}
 use Rattle.decimal.specs.Figures.{Figure, figures, dec, ◌is◌}
-use Rattle.inputs.specs.declared.Scenario.{Scenario}
 use Rattle.inputs.specs.declared.Contaminant.{Contaminant}
 use Rattle.inputs.specs.BuiltIn.{office}
 use Rattle.formulas.specs.Side.{Risk}
 use Rattle.formulas.specs.Formula.{none}
 use Rattle.formulas.specs.Term.{term_of, formulas_for, values_for}
+use Rattle.formulas.specs.Figures.{resident, tritium}
 use Rattle.guideline_rules.specs.Guideline.{guidelines_sent, guideline_of}
 
 -- a chemical with SFo 1, RfDo 0.02 and a concentration, all else zero
@@ -33,33 +33,6 @@ office_figures =
     ((guidelines_sent (guideline_of office 1 chemical)).risk.total is dec 572319997 (negsuc 7)) ∷
     ((guidelines_sent (guideline_of office 1 chemical)).hazard.first is dec 408799998 (negsuc 3)) ∷
     ((guidelines_sent (guideline_of office 1 chemical)).hazard.total is dec 408799998 (negsuc 3)) ∷ []
-
--- a resident with a house, and tritium (002, Table 1.2.3)
-abbrev pub resident : Scenario
-resident = record {
-  exposure = record { ef = dec 350 (pos 0); ed = dec 30 (pos 0); bw = dec 70 (pos 0); at = dec 70 (pos 0) };
-  contact = record { ir = dec 2 (pos 0); ira = dec 83 (negsuc 1); pef = zero_of; et = dec 167 (negsuc 2); rf = zero_of; sa = dec 19 (negsuc 0) };
-  targets = record { tr = dec 1 (negsuc 5); thi = dec 1 (pos 0) };
-  house = record {
-    m = dec 6696 (negsuc 1);
-    f = dec 625 (negsuc 2);
-    n = dec 4 (pos 0);
-    s = dec 6 (pos 0);
-    v = dec 5 (pos 0);
-    l = dec 276 (negsuc 1);
-    w = dec 272 (pos 0);
-    k = dec 15 (negsuc 5);
-  };
-}
-
-abbrev pub tritium : Contaminant
-tritium = record {
-  class = 3;
-  id = 1;
-  toxicity = record { sfo = dec 72 (negsuc 14); sfi = dec 96 (negsuc 14); sfx = zero_of; rfdo = zero_of; rfdi = zero_of };
-  transfer = record { vf = zero_of; pc = zero_of };
-  c = dec 500 (pos 0);
-}
 
 unfoldable pub tritium_figures : List Figure
 tritium_figures =

@@ -14,6 +14,11 @@ none_before = record { id = 0; chemical = false; tritium = false }
 abbrev pub before_next : Earlier → Contaminant → Earlier
 before_next e r = record { id = r.id; chemical = e.chemical || is_class Chemical r; tritium = e.tritium || is_class Tritium r }
 
+-- and after several records
+abbrev pub before_rest : Earlier → List Contaminant → Earlier
+before_rest e [] = e
+before_rest e (r ∷ rs) = before_rest (before_next e r) rs
+
 -- 12: a chemical after tritium, or tritium after a chemical, whatever stands between them
 abbrev pub mixed : Earlier → Contaminant → Bool
 mixed e r = is_class Chemical r && e.tritium || is_class Tritium r && e.chemical

@@ -12,7 +12,7 @@ use Rattle.formulas.specs.Term.{present_of, term_of, total_of, values_of}
 use Rattle.inputs.specs.Rules.{scenario_refusal}
 use Rattle.guideline_rules.specs.Pathway.{has_pathway, record_refusal}
 use Rattle.guideline_rules.specs.Guideline.{side_of}
-use Rattle.guideline_rules.specs.Figures.{resident, tritium}
+use Rattle.formulas.specs.Figures.{resident, tritium}
 use Rattle.sum_rules.specs.Share.{term_sum, used_of, share_of}
 use Rattle.sum_rules.specs.Verdict.{verdict_of}
 use Rattle.sum_rules.specs.ListCall.{first_refusal, walk, sums_of}

@@ -1,0 +1,53 @@
+-- The example of tritium (docs/SPECIFICATION.md, "Checked figures"), and what H comes to there: in each direction, without ET, and with a zero
+-- factor in its second part.
+use Rattle.std.specs.Prelude.{List, [], ◌∷◌, pos, negsuc}
+use Rattle.rounding.specs.declared.Direction.{Direction}
+use Rattle.rounding.specs.declared.Direction.TheVariants.{Down, Up}
+use Rattle.decimal.specs.declared.Decimal.{Decimal}
+use Rattle.decimal.specs.Decimal.{zero_of}
+use Rattle.decimal.specs.Figures.{Figure, dec, ◌is◌}
+use Rattle.inputs.specs.declared.Scenario.{Scenario}
+use Rattle.inputs.specs.declared.Contaminant.{Contaminant}
+use Rattle.formulas.specs.Formula.{H}
+use Rattle.formulas.specs.Term.{look, values_for}
+
+-- a resident with a house (002, Table 1.2.3), with these ET and N; and tritium
+abbrev resident_with : Decimal → Decimal → Scenario
+resident_with et n = record {
+  exposure = record { ef = dec 350 (pos 0); ed = dec 30 (pos 0); bw = dec 70 (pos 0); at = dec 70 (pos 0) };
+  contact = record { ir = dec 2 (pos 0); ira = dec 83 (negsuc 1); pef = zero_of; et = et; rf = zero_of; sa = dec 19 (negsuc 0) };
+  targets = record { tr = dec 1 (negsuc 5); thi = dec 1 (pos 0) };
+  house = record {
+    m = dec 6696 (negsuc 1);
+    f = dec 625 (negsuc 2);
+    n = n;
+    s = dec 6 (pos 0);
+    v = dec 5 (pos 0);
+    l = dec 276 (negsuc 1);
+    w = dec 272 (pos 0);
+    k = dec 15 (negsuc 5);
+  };
+}
+
+abbrev pub resident : Scenario
+resident = resident_with (dec 167 (negsuc 2)) (dec 4 (pos 0))
+
+abbrev pub tritium : Contaminant
+tritium = record {
+  class = 3;
+  id = 1;
+  toxicity = record { sfo = dec 72 (negsuc 14); sfi = dec 96 (negsuc 14); sfx = zero_of; rfdo = zero_of; rfdi = zero_of };
+  transfer = record { vf = zero_of; pc = zero_of };
+  c = dec 500 (pos 0);
+}
+
+abbrev hours : Direction → Scenario → Decimal
+hours dir s = look (values_for dir s tritium) H
+
+unfoldable pub hours_figures : List Figure
+hours_figures =
+    (hours Up resident is dec 266904093 (negsuc 8)) ∷
+    (hours Down resident is dec 266904092 (negsuc 8)) ∷
+    (hours Up (resident_with zero_of (dec 4 (pos 0))) is dec 999040921 (negsuc 9)) ∷
+    (hours Up (resident_with (dec 167 (negsuc 2)) zero_of) is dec 167000000 (negsuc 8)) ∷
+    (hours Up (resident_with zero_of zero_of) is zero_of) ∷ []
