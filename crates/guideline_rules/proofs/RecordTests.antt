@@ -1,7 +1,7 @@
 -- What the tests of a record say: 12 before 8; and where none of them holds, it is not mixed with what stands before it, and standing alone it passes too.
 -- Assumes nothing.
 use mathlib.Core.Path.{◌≡◌, refl, sym, ap₂}
-use mathlib.Core.Bool.{Bool, true, false, not, ◌||◌, and-false}
+use mathlib.Core.Bool.{Bool, true, false, false≢true, not, ◌||◌, and-false}
 use mathlib.Core.List.{[], ◌∷◌}
 use Prim.Native.Nat.{ℕ}
 use Rattle.outcome.specs.declared.Refusal.TheVariants.{House, Pathway}
@@ -20,7 +20,11 @@ use Rattle.guideline_rules.specs.Pathway.{either_side, record_refusal}
 pub house_refused : (s : Scenario) (medium : ℕ) (before : Earlier) (r : Contaminant) → lacks_house s medium r || mixed before r ≡ true →
     record_refusal s medium before r ≡ Err House
 unfolding record_refusal
-house_refused s medium before r e = rw e
+house_refused s medium before r = cases (lacks_house s medium r || mixed before r)
+  where
+    cases : (a : Bool) → a ≡ true → refused_by (test House a ∷ test Pathway (not (either_side s medium r)) ∷ []) ≡ Err House
+    cases true e = refl
+    cases false e = absurd (false≢true e)
 
 pub passed_unmixed : (s : Scenario) (medium : ℕ) (before : Earlier) (r : Contaminant) → record_refusal s medium before r ≡ Ok tt → mixed before r ≡ false
 unfolding record_refusal
