@@ -12,7 +12,7 @@ use Rattle.inputs.specs.declared.kind.Medium.{Medium}
 use Rattle.inputs.specs.declared.kind.Medium.TheVariants.{Water}
 use Rattle.factors.specs.declared.numbers.Factors.{Factors}
 use Rattle.factors.specs.declared.prepared.Prepared.{Prepared}
-use Rattle.factors.specs.Stands.{Stands, ReadyFactors}
+use Rattle.factors.specs.Stands.{Stands}
 
 -- a number that can be multiplied twice and stay in range
 pub record Middle (r : Number) : Type 0 where
@@ -53,10 +53,8 @@ hours_of dir f = add_of (decimal_of f.contact.et) (shower_of dir f) dir
 abbrev pub HoursFor : Direction → Medium → Factors → Number → Type 0
 HoursFor dir medium f h = medium ≡ Water → Stands hours_width h (hours_of dir f)
 
--- p holds the factors f and their products in a direction
+-- p holds the products of the factors f in a direction
 pub record PreparedFor (dir : Direction) (f : Factors) (p : Prepared) : Type 0 where
-  pub same : p.factors ≡ f
-  pub ready : ReadyFactors p.factors
   pub lifetime : Stands three_width p.lifetime (product_of (opposite dir) (decimal_of f.exposure.bw ∷ decimal_of f.exposure.at ∷ days ∷ []))
   pub soil_intake : Stands three_width p.soil_intake (product_of dir (decimal_of f.contact.ir ∷ millionth ∷ decimal_of f.exposure.ef ∷ []))
   pub water_intake : Stands two_width p.water_intake (product_of dir (decimal_of f.contact.ir ∷ decimal_of f.exposure.ef ∷ []))

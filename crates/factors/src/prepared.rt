@@ -29,12 +29,11 @@ pub const DAYS: Number = Number {
     x: BIAS - 6,
 };
 
-// The medium and the scenario's factors, and in a direction: the divisor BW, AT, 365 of every risk term of a chemical
+// The medium, and of a scenario's factors in a direction: the divisor BW, AT, 365 of every risk term of a chemical
 // (rounded the other way); the dividends of hazard by ingestion of soil, of water and by vapour; 1 / PEF; and H, in water.
 #[derive(Clone, Copy)]
 pub struct Prepared {
     pub medium: Medium,
-    pub factors: Factors,
     pub lifetime: Number,
     pub soil_intake: Number,
     pub water_intake: Number,
@@ -53,9 +52,9 @@ pub fn product3(a: Number, b: Number, c: Number, dir: Direction) -> Number
 
 // H = ET + (F, N, S, V / L, W), in water. Where the house has no L or no W the second part adds nothing, and nothing is worked out; in
 // soil no record needs H.
-fn hours(f: Factors, medium: Medium, dir: Direction) -> Number
-    requires { ReadyFactors f }
-    ensures { HoursFor dir medium f result }
+fn hours(f: &Factors, medium: Medium, dir: Direction) -> Number
+    requires { ReadyFactors f.now }
+    ensures { HoursFor dir medium f.now result }
 {
     if matches!(medium, Medium::Soil) {
         return Number::ZERO;
@@ -71,9 +70,9 @@ fn hours(f: Factors, medium: Medium, dir: Direction) -> Number
 }
 
 // What a scenario gives in a medium and a direction.
-pub fn prepare(f: Factors, medium: Medium, dir: Direction) -> Prepared
-    requires { ReadyFactors f }
-    ensures { PreparedFor dir f result × (result.medium ≡ medium) }
+pub fn prepare(f: &Factors, medium: Medium, dir: Direction) -> Prepared
+    requires { ReadyFactors f.now }
+    ensures { PreparedFor dir f.now result × (result.medium ≡ medium) }
 {
     let lifetime = product3(f.exposure.bw, f.exposure.at, DAYS, dir.opposite());
     let soil_intake = product3(f.contact.ir, MILLIONTH, f.exposure.ef, dir);
@@ -83,7 +82,6 @@ pub fn prepare(f: Factors, medium: Medium, dir: Direction) -> Prepared
     let hours = hours(f, medium, dir);
     Prepared {
         medium,
-        factors: f,
         lifetime,
         soil_intake,
         water_intake,

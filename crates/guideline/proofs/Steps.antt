@@ -11,7 +11,6 @@ use Rattle.inputs.specs.declared.Scenario.{Scenario}
 use Rattle.inputs.specs.declared.Contaminant.{Contaminant}
 use Rattle.factors.specs.declared.numbers.Factors.{Factors}
 use Rattle.factors.specs.declared.numbers.ContaminantNumbers.{ContaminantNumbers}
-use Rattle.factors.specs.declared.prepared.Prepared.{Prepared}
 use Rattle.terms.specs.declared.pathways.PathwayTerms.{PathwayTerms}
 use Rattle.terms.specs.Side.{Terms}
 use Rattle.formulas.specs.Side.{Risk, Hazard}
@@ -19,7 +18,6 @@ use Rattle.formulas.specs.Target.{working_target}
 use Rattle.formulas.specs.Formula.{Formula}
 use Rattle.formulas.specs.Term.{formulas_for, values_for}
 use Rattle.factors.specs.Stands.{FactorsFor, NumbersFor}
-use Rattle.factors.specs.Prepared.{PreparedFor}
 use Rattle.terms.specs.Side.{number_values, SideFor, TermsFor, Wide, WideSide}
 use Rattle.formulas.proofs.Sound.{three_pathways}
 use Rattle.factors.proofs.StandsLaws.{risk_target, hazard_target}
@@ -35,16 +33,15 @@ pub sides : {dir : Direction} {f : Factors} {t : ContaminantNumbers} {fs : List 
     number_values dir f t ≡ vs → SideFor dir f t fs k → SideStands dir vs fs k
 sides {dir} {f} {t} {fs} {k} {vs} e h = subst (λ (l : List Decimal). SideStands dir l fs k) e (record { first = h.first; second = h.second; third = h.third })
 
-pub record TermsOf (s : Scenario) (medium : ℕ) (r : Contaminant) (f : Factors) (p : Prepared) (t : ContaminantNumbers) (k : Terms) : Type 0 where
+pub record TermsOf (s : Scenario) (medium : ℕ) (r : Contaminant) (f : Factors) (t : ContaminantNumbers) (k : Terms) : Type 0 where
   pub inputs : Accepted s medium r
   pub factors : FactorsFor s f
-  pub prepared : PreparedFor Up f p
   pub numbers : NumbersFor r t
-  pub terms : TermsFor Up p.factors t medium r.class k
+  pub terms : TermsFor Up f t medium r.class k
 
-module _ {s : Scenario} {medium : ℕ} {r : Contaminant} {f : Factors} {p : Prepared} {t : ContaminantNumbers} {k : Terms} (h : TermsOf s medium r f p t k) where
-  same : number_values Up p.factors t ≡ values_for Up s r
-  same = values_same Up s r h.factors h.prepared h.numbers
+module _ {s : Scenario} {medium : ℕ} {r : Contaminant} {f : Factors} {t : ContaminantNumbers} {k : Terms} (h : TermsOf s medium r f t k) where
+  same : number_values Up f t ≡ values_for Up s r
+  same = values_same Up s r h.factors h.numbers
 
   pub risk_terms : SideStands Up (values_for Up s r) (formulas_for s medium r Risk) k.risk
   risk_terms = sides same h.terms.risk
@@ -59,12 +56,12 @@ module _ {s : Scenario} {medium : ℕ} {r : Contaminant} {f : Factors} {p : Prep
       ((risk, side_wide risk_terms), (hazard, side_wide hazard_terms))
 
 -- ---- the columns
-pub record ColumnsOf (s : Scenario) (medium : ℕ) (r : Contaminant) (f : Factors) (p : Prepared) (t : ContaminantNumbers) (k : Terms) (x y : Column) : Type 0 where
-  pub terms : TermsOf s medium r f p t k
+pub record ColumnsOf (s : Scenario) (medium : ℕ) (r : Contaminant) (f : Factors) (t : ContaminantNumbers) (k : Terms) (x y : Column) : Type 0 where
+  pub terms : TermsOf s medium r f t k
   pub risk : ColumnFor f.targets.tr k.risk x
   pub hazard : ColumnFor f.targets.thi k.hazard y
 
-module _ {s : Scenario} {medium : ℕ} {r : Contaminant} {f : Factors} {p : Prepared} {t : ContaminantNumbers} {k : Terms} {x y : Column} (h : ColumnsOf s medium r f p t k x y) where
+module _ {s : Scenario} {medium : ℕ} {r : Contaminant} {f : Factors} {t : ContaminantNumbers} {k : Terms} {x y : Column} (h : ColumnsOf s medium r f t k x y) where
   abbrev vs : List Decimal
   vs = values_for Up s r
 

@@ -54,14 +54,14 @@ module _ {p : Plan} {r : Contaminant} {w : Worked} (known : lacks_factor p.scena
   can : Workable p r
   can = record { known = known; contaminant = ok.fits }
 
-  terms_of_lem : TermsOf p.scenario p.medium r p.up.factors p.up k.numbers w.above
-  terms_of_lem = record { inputs = inputs_of_lem can; factors = p.ready.factors; prepared = p.ready.up; numbers = k.stands; terms = k.upper_terms }
+  terms_of_lem : TermsOf p.scenario p.medium r p.factors k.numbers w.above
+  terms_of_lem = record { inputs = inputs_of_lem can; factors = p.ready.factors; numbers = k.stands; terms = k.upper_terms }
 
-  pub block_wide : (Wide p.up.factors.targets.tr × WideSide w.above.risk) × (Wide p.up.factors.targets.thi × WideSide w.above.hazard)
+  pub block_wide : (Wide p.factors.targets.tr × WideSide w.above.risk) × (Wide p.factors.targets.thi × WideSide w.above.hazard)
   block_wide = wide terms_of_lem
 
-  module _ {x y : Column} (u : ColumnFor p.up.factors.targets.tr w.above.risk x) (v : ColumnFor p.up.factors.targets.thi w.above.hazard y) where
-    columns_of : ColumnsOf p.scenario p.medium r p.up.factors p.up k.numbers w.above x y
+  module _ {x y : Column} (u : ColumnFor p.factors.targets.tr w.above.risk x) (v : ColumnFor p.factors.targets.thi w.above.hazard y) where
+    columns_of : ColumnsOf p.scenario p.medium r p.factors k.numbers w.above x y
     columns_of = record { terms = terms_of_lem; risk = u; hazard = v }
 
     pub risk_printable : PrintableColumn x

@@ -24,7 +24,7 @@ fn put_block(site: &[u8], p: &Plan, place: u32, runs: &mut Runs, out: &mut [u8])
     let to = at + 508;
     let r = blocks::get_contaminant(&site[from..to], 4);
     let w = p.work(r);
-    let g = guideline::columns_of(p.up.factors.targets, w.above);
+    let g = guideline::columns_of(p.factors.targets, w.above);
     let risk = guideline::decimals(g.risk);
     let hazard = guideline::decimals(g.hazard);
     block_output::put_result(out, place, r.class, r.id, Guidelines { risk, hazard });

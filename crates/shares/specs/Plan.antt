@@ -46,8 +46,8 @@ pub record WorkedFor (p : Plan) (r : Contaminant) (w : Worked) : Type 0 where
   pub numbers : ContaminantNumbers
   pub stands : NumbersFor r numbers
   pub below : Terms
-  pub upper_terms : TermsFor Up p.up.factors numbers p.medium r.class w.above
-  pub lower_terms : TermsFor Down p.down.factors numbers p.medium r.class below
+  pub upper_terms : TermsFor Up p.factors numbers p.medium r.class w.above
+  pub lower_terms : TermsFor Down p.factors numbers p.medium r.class below
   pub risk : w.risk ≡ total_from below.risk
   pub hazard : w.hazard ≡ total_from below.hazard
   pub risk_size : TotalSize w.risk

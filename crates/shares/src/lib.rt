@@ -61,8 +61,9 @@ pub fn planned(s: Scenario, medium: u32) -> Plan
     Plan {
         scenario: s,
         medium,
-        up: factors::prepared::prepare(f, kind, Direction::Up),
-        down: factors::prepared::prepare(f, kind, Direction::Down),
+        factors: f,
+        up: factors::prepared::prepare(&f, kind, Direction::Up),
+        down: factors::prepared::prepare(&f, kind, Direction::Down),
     }
 }
 
@@ -82,8 +83,14 @@ impl Plan {
     {
         let class = Class::of(r.class);
         let x = factors::numbers::contaminant_numbers(r);
-        let above = terms::pathways::terms_of(&self.up, &x, class, Direction::Up);
-        let below = terms::pathways::terms_of(&self.down, &x, class, Direction::Down);
+        let above = terms::pathways::terms_of(&self.factors, &self.up, &x, class, Direction::Up);
+        let below = terms::pathways::terms_of(
+            &self.factors,
+            &self.down,
+            &x,
+            class,
+            Direction::Down,
+        );
         let c = factors::numbers::number_of(r.c);
         Worked {
             above,

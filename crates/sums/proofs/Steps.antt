@@ -46,11 +46,11 @@ module _ {p : Plan} {r : Contaminant} {w : Worked} (h : Workable p r) (k : Worke
   pub concentration : Input w.c
   concentration = stands_own (k.c Up)
 
-  up_same : number_values Up p.up.factors k.numbers ≡ values_for Up p.scenario r
-  up_same = values_same Up p.scenario r p.ready.factors p.ready.up k.stands
+  up_same : number_values Up p.factors k.numbers ≡ values_for Up p.scenario r
+  up_same = values_same Up p.scenario r p.ready.factors k.stands
 
-  down_same : number_values Down p.down.factors k.numbers ≡ values_for Down p.scenario r
-  down_same = values_same Down p.scenario r p.ready.factors p.ready.down k.stands
+  down_same : number_values Down p.factors k.numbers ≡ values_for Down p.scenario r
+  down_same = values_same Down p.scenario r p.ready.factors k.stands
 
   module _ {a b : Number} (u : UpperSum w.above.risk a) (v : UpperSum w.above.hazard b) where
     risk_side : SideTerms p.scenario p.medium r Risk w.above.risk k.below.risk a w.risk w.c

@@ -133,7 +133,7 @@ pub fn reported(p: &Plan, x: Runs) -> Sums
     requires { RunsReady sum_width x }
     ensures { result ≡ reported_of p.now.scenario x }
 {
-    let targets = p.up.factors.targets;
+    let targets = p.factors.targets;
     Sums {
         risk: side_sums(x.risk, targets.tr),
         hazard: side_sums(x.hazard, targets.thi),

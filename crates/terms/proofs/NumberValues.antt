@@ -57,12 +57,9 @@ abbrev pub behind : ℕ → ℕ → ℕ
 behind zero k = k
 behind (suc m) k = suc (behind m k)
 
-module _ {dir : Direction} {p : Prepared} {t : ContaminantNumbers} (r : Ready dir p t) where
-  abbrev f : Factors
-  f = p.factors
-
+module _ {dir : Direction} {f : Factors} {p : Prepared} {t : ContaminantNumbers} (r : Ready dir f p t) where
   inputs_stand : StandAll (numbers f t) (number_inputs f t)
-  inputs_stand = stands_join constants_stand (stands_join r.prepared.ready r.numbers)
+  inputs_stand = stands_join constants_stand (stands_join r.factors r.numbers)
 
   -- THE INPUT of a name that is not worked out: the number that the code has for it, its size, and its range
   pub input : (n : ℕ) → Stands input_width (get_or (numbers f t) (n - derived_places) no_number) (look (number_values dir f t) (behind derived_places (n - derived_places)))
@@ -133,13 +130,13 @@ module _ {dir : Direction} {p : Prepared} {t : ContaminantNumbers} (r : Ready di
       ap (λ (d : Decimal). summed dir zero_of (d ∷ term_of plain dir ((F ∷ N ∷ S ∷ Vol ∷ []) ÷ (L ∷ W ∷ [])) ∷ [])) et_term ∙
       ap (λ (d : Decimal). summed dir zero_of (decimal_of f.contact.et ∷ d ∷ [])) shower_term ∙
       ap (λ (d : Decimal). summed dir d (shower_of dir f ∷ [])) (skip_first dir et_value) ∙
-      skip_next dir et_value (shower_value dir r.prepared.ready)
+      skip_next dir et_value (shower_value dir r.factors)
 
   pub hours_stands : p.medium ≡ Water → Stands hours_width p.hours (look (number_values dir f t) H)
   hours_stands water = stands_is (sym hours_added) (r.prepared.hours water)
 
   hours_known : ZeroByDigits (look (number_values dir f t) H)
-  hours_known = subst ZeroByDigits (sym hours_added) (value_zero (hours_value dir r.prepared.ready))
+  hours_known = subst ZeroByDigits (sym hours_added) (value_zero (hours_value dir r.factors))
 
   -- every value is zero where its m is
   values_known : (n : ℕ) → ZeroByDigits (look (number_values dir f t) n)
@@ -154,11 +151,11 @@ module _ {dir : Direction} {p : Prepared} {t : ContaminantNumbers} (r : Ready di
       stands_most h (stands_is (sym (term_evaluated (number_values dir f t) values_known dir (get_or (pathways_of medium class side) n none))) s)
 
 -- the product of the factors that are named, and of those after the stroke
-abbrev pub named : Direction → Prepared → ContaminantNumbers → List ℕ → Decimal
-named dir p t ns = list_product dir (map (look (number_values dir p.factors t)) ns)
+abbrev pub named : Direction → Factors → ContaminantNumbers → List ℕ → Decimal
+named dir f t ns = list_product dir (map (look (number_values dir f t)) ns)
 
-abbrev pub named_below : Direction → Prepared → ContaminantNumbers → List ℕ → Decimal
-named_below dir p t ns = list_product (opposite dir) (map (look (number_values dir p.factors t)) ns)
+abbrev pub named_below : Direction → Factors → ContaminantNumbers → List ℕ → Decimal
+named_below dir f t ns = list_product (opposite dir) (map (look (number_values dir f t)) ns)
 
 -- a divisor, multiplied in the other direction
 pub stands_turned : (dir back : Direction) → back ≡ opposite dir → {u v w : ℕ} {p q n r : Number} {a b c : Decimal} → Stands u p a → Stands v q b → Stands w n c →

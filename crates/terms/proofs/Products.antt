@@ -15,6 +15,7 @@ use Rattle.decimal.specs.declared.Decimal.{Decimal}
 use Rattle.decimal.specs.Decimal.{mul_of}
 use Rattle.formulas.specs.Formula.{derived_places}
 use Rattle.formulas.specs.Term.{look}
+use Rattle.factors.specs.declared.numbers.Factors.{Factors}
 use Rattle.factors.specs.declared.numbers.ContaminantNumbers.{ContaminantNumbers}
 use Rattle.factors.specs.declared.prepared.Prepared.{Prepared}
 use Rattle.factors.specs.Stands.{Stands}
@@ -27,25 +28,25 @@ use Rattle.terms.proofs.NumberValues.{behind, numbers, named, named_below, input
 abbrev pub place : ℕ → ℕ
 place n = behind derived_places (n - derived_places)
 
-module _ {dir : Direction} {p : Prepared} {t : ContaminantNumbers} (ready : Ready dir p t) where
+module _ {dir : Direction} {f : Factors} {p : Prepared} {t : ContaminantNumbers} (ready : Ready dir f p t) where
   -- the number of a name
   abbrev pub number : ℕ → Number
-  number n = get_or (numbers p.factors t) (n - derived_places) no_number
+  number n = get_or (numbers f t) (n - derived_places) no_number
 
-  pub two_inputs : (m n : ℕ) {a : Number} → a ≡ product_of dir (number m) (number n) → Stands two_width a (named dir p t (place m ∷ place n ∷ []))
+  pub two_inputs : (m n : ℕ) {a : Number} → a ≡ product_of dir (number m) (number n) → Stands two_width a (named dir f t (place m ∷ place n ∷ []))
   two_inputs m n e = stands_mul dir (input ready m) (input ready n) (lit≤ tt) e
 
   pub three_inputs : (m n k : ℕ) {a : Number} → a ≡ product_of dir (product_of dir (number m) (number n)) (number k) →
-      Stands three_width a (named dir p t (place m ∷ place n ∷ place k ∷ []))
+      Stands three_width a (named dir f t (place m ∷ place n ∷ place k ∷ []))
   three_inputs m n k e = stands_mul3 dir (input ready m) (input ready n) (input ready k) (lit≤ tt) e
 
   pub two_more : (m n : ℕ) {w : ℕ} {a b : Number} {d : Decimal} → Stands w a d → w + input_width + input_width ≤ 970 → b ≡ product_of dir (product_of dir a (number m)) (number n) →
       Stands (w + input_width + input_width + 2) b
-      (mul_of (mul_of d (look (number_values dir p.factors t) (place m)) dir) (look (number_values dir p.factors t) (place n)) dir)
+      (mul_of (mul_of d (look (number_values dir f t) (place m)) dir) (look (number_values dir f t) (place n)) dir)
   two_more m n s h e = stands_mul3 dir s (input ready m) (input ready n) h e
 
   pub three_below : (m n k : ℕ) {back : Direction} {a : Number} → back ≡ opposite dir → a ≡ product_of back (product_of back (number m) (number n)) (number k) →
-      Stands three_width a (named_below dir p t (place m ∷ place n ∷ place k ∷ []))
+      Stands three_width a (named_below dir f t (place m ∷ place n ∷ place k ∷ []))
   three_below m n k {back} b e = stands_turned dir back b (input ready m) (input ready n) (input ready k) (lit≤ tt) e
 
   -- ---- what may be multiplied so

@@ -1,5 +1,5 @@
 -- The numbers of a scenario and a contaminant give the values of the definitions. Assumes nothing.
-use mathlib.Core.Path.{◌≡◌, sym, ap, ap₂, subst, ◌∙◌}
+use mathlib.Core.Path.{◌≡◌, ap₂, subst}
 use mathlib.Core.List.{List, ◌++◌, map}
 use Rattle.rounding.specs.declared.Direction.{Direction}
 use Rattle.decimal.specs.declared.Decimal.{Decimal}
@@ -11,22 +11,21 @@ use Rattle.factors.specs.declared.numbers.ContaminantNumbers.{ContaminantNumbers
 use Rattle.factors.specs.declared.prepared.Prepared.{Prepared}
 use Rattle.formulas.specs.Formula.{Formula, derived}
 use Rattle.formulas.specs.Term.{constants, total_of, inputs_of, values_of}
-use Rattle.factors.specs.Stands.{StandAll, contaminant_numbers, FactorsFor, NumbersFor}
+use Rattle.factors.specs.Stands.{StandAll, factor_numbers, contaminant_numbers, FactorsFor, NumbersFor}
 use Rattle.factors.specs.Prepared.{PreparedFor}
 use Rattle.terms.specs.Side.{number_values, Ready, TermsFor}
 use Rattle.terms.specs.Side.{Terms}
 use Prim.Native.Nat.{ℕ}
 use Rattle.factors.proofs.StandsLaws.{all_own, all_same}
 
-pub ready : {dir : Direction} {f : Factors} {p : Prepared} {t : ContaminantNumbers} {ds : List Decimal} → PreparedFor dir f p → StandAll (contaminant_numbers t) ds → Ready dir p t
-ready {dir} {f} {p} h k = record { prepared = subst (λ (g : Factors). PreparedFor dir g p) (sym h.same) h; numbers = all_own k }
+pub ready : {dir : Direction} {f : Factors} {p : Prepared} {t : ContaminantNumbers} {ds es : List Decimal} → PreparedFor dir f p → StandAll (factor_numbers f) es →
+    StandAll (contaminant_numbers t) ds → Ready dir f p t
+ready h g k = record { prepared = h; factors = all_own g; numbers = all_own k }
 
 -- ---- the same decimals
-pub values_same : (dir : Direction) (s : Scenario) (r : Contaminant) {f : Factors} {p : Prepared} {t : ContaminantNumbers} →
-    FactorsFor s f → PreparedFor dir f p → NumbersFor r t → number_values dir p.factors t ≡ values_of dir (inputs_of s r)
+pub values_same : (dir : Direction) (s : Scenario) (r : Contaminant) {f : Factors} {t : ContaminantNumbers} → FactorsFor s f → NumbersFor r t → number_values dir f t ≡ values_of dir (inputs_of s r)
 unfolding number_values values_of derived
-values_same dir s r {f} {p} {t} h g k =
-    ap (λ (v : Factors). number_values dir v t) g.same ∙
+values_same dir s r h k =
     ap₂ (λ (l m : List Decimal). values (map working_of constants ++ (l ++ m))) (all_same h) (all_same k)
   where
     values : List Decimal → List Decimal

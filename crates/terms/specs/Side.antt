@@ -14,7 +14,7 @@ use Rattle.formulas.specs.Side.{Risk, Hazard}
 use Rattle.formulas.specs.Formula.{Formula, B, none, pathways_of, derived}
 use Rattle.formulas.specs.Term.{look, constants, total_of, term_of}
 use Rattle.factors.specs.Widths.{formula_width, two_width}
-use Rattle.factors.specs.Stands.{Stands, factor_numbers, contaminant_numbers, ReadyNumbers}
+use Rattle.factors.specs.Stands.{Stands, factor_numbers, contaminant_numbers, ReadyFactors, ReadyNumbers}
 use Rattle.factors.specs.Prepared.{PreparedFor}
 
 -- the decimals that the constants and the code's numbers stand for, in the order of `inputs_of`
@@ -30,13 +30,14 @@ abbrev pub Terms : Type 0
 Terms = Sides PathwayTerms
 
 -- the numbers that a side's terms are worked out from
-pub record Ready (dir : Direction) (p : Prepared) (t : ContaminantNumbers) : Type 0 where
-  pub prepared : PreparedFor dir p.factors p
+pub record Ready (dir : Direction) (f : Factors) (p : Prepared) (t : ContaminantNumbers) : Type 0 where
+  pub prepared : PreparedFor dir f p
+  pub factors : ReadyFactors f
   pub numbers : ReadyNumbers t
 
 -- b is B in a direction
-pub record Air (dir : Direction) (p : Prepared) (t : ContaminantNumbers) (b : Number) : Type 0 where
-  pub stands : Stands (two_width + 1) b (look (number_values dir p.factors t) B)
+pub record Air (dir : Direction) (f : Factors) (t : ContaminantNumbers) (b : Number) : Type 0 where
+  pub stands : Stands (two_width + 1) b (look (number_values dir f t) B)
 
 pub record SideFor (dir : Direction) (f : Factors) (t : ContaminantNumbers) (fs : List Formula) (s : PathwayTerms) : Type 0 where
   pub first : Stands formula_width s.first (term_of (number_values dir f t) dir (get_or fs 0 none))

@@ -10,7 +10,7 @@ ghost use Rattle.terms.specs.OneProof.{one_ready};
 ghost use Rattle.inputs.specs.Kinds.{medium_number, class_number};
 ghost use Rattle.inputs.specs.declared.kind.Medium.TheVariants.{Water};
 
-use factors::numbers::ContaminantNumbers;
+use factors::numbers::{ContaminantNumbers, Factors};
 use factors::prepared::{DAYS, HALF, MILLIONTH, ONE, Prepared, product3};
 use formulas::Sides;
 use inputs::{Class, Medium};
@@ -43,19 +43,21 @@ pub struct PathwayTerms {
 // The terms of both sides.
 pub type Terms = Sides<PathwayTerms>;
 
-// What the terms are worked out from in a direction: what a scenario gives once, and the numbers of a contaminant.
+// What the terms are worked out from in a direction: the factors of a scenario and
+// their products, and the numbers of a contaminant.
 #[derive(Clone, Copy)]
 struct Given {
+    f: Factors,
     p: Prepared,
     t: ContaminantNumbers,
     dir: Direction,
-    ghost ready: { Ready dir p t } by { one_ready dir p t },
+    ghost ready: { Ready dir f p t } by { one_ready dir f p t },
 }
 
 impl Given {
     // B = 1/VF + 1/PEF.
     fn air(self) -> Number
-        ensures { Air self.dir self.p self.t result }
+        ensures { Air self.dir self.f self.t result }
     {
         ONE.div(self.t.transfer.vf, self.dir)
             .add(self.p.inverse_pef, self.dir)
@@ -63,12 +65,12 @@ impl Given {
 
     // Soil, chemical, risk: ingestion and inhalation.
     fn soil_chemical_risk(self, b: Number) -> PathwayTerms
-        requires { Air self.dir self.p self.t b }
-        ensures { SideFor self.dir self.p.factors self.t (pathways_of 1 1 Risk) result }
+        requires { Air self.dir self.f self.t b }
+        ensures { SideFor self.dir self.f self.t (pathways_of 1 1 Risk) result }
     {
-        let Given { p, t, dir } = self;
-        let e = p.factors.exposure;
-        let k = p.factors.contact;
+        let Given { f, p, t, dir } = self;
+        let e = f.exposure;
+        let k = f.contact;
         let x = t.toxicity;
         let swallowed = product3(product3(x.sfo, k.ir, MILLIONTH, dir), e.ef, e.ed, dir);
         let inhaled = product3(product3(x.sfi, k.ira, b, dir), e.ef, e.ed, dir);
@@ -81,12 +83,12 @@ impl Given {
 
     // Soil, chemical, hazard: ingestion and inhalation.
     fn soil_chemical_hazard(self, b: Number) -> PathwayTerms
-        requires { Air self.dir self.p self.t b }
-        ensures { SideFor self.dir self.p.factors self.t (pathways_of 1 1 Hazard) result }
+        requires { Air self.dir self.f self.t b }
+        ensures { SideFor self.dir self.f self.t (pathways_of 1 1 Hazard) result }
     {
-        let Given { p, t, dir } = self;
-        let e = p.factors.exposure;
-        let k = p.factors.contact;
+        let Given { f, p, t, dir } = self;
+        let e = f.exposure;
+        let k = f.contact;
         let x = t.toxicity;
         let back = dir.opposite();
         let oral = product3(x.rfdo, e.bw, DAYS, back);
@@ -100,11 +102,11 @@ impl Given {
 
     // Soil, radionuclide, risk: ingestion, inhalation and external radiation.
     fn soil_radionuclide_risk(self) -> PathwayTerms
-        ensures { SideFor self.dir self.p.factors self.t (pathways_of 1 2 Risk) result }
+        ensures { SideFor self.dir self.f self.t (pathways_of 1 2 Risk) result }
     {
-        let Given { p, t, dir } = self;
-        let e = p.factors.exposure;
-        let k = p.factors.contact;
+        let Given { f, t, dir, .. } = self;
+        let e = f.exposure;
+        let k = f.contact;
         let x = t.toxicity;
         let inhaled = product3(x.sfi.mul(k.ira, dir), e.ef, e.ed, dir);
         let outdoors = product3(x.sfx, k.et, k.rf, dir).mul(YEARS_PER_HOUR, dir);
@@ -117,11 +119,11 @@ impl Given {
 
     // Water, chemical, risk: ingestion, vapour and skin.
     fn water_chemical_risk(self) -> PathwayTerms
-        ensures { SideFor self.dir self.p.factors self.t (pathways_of 2 1 Risk) result }
+        ensures { SideFor self.dir self.f self.t (pathways_of 2 1 Risk) result }
     {
-        let Given { p, t, dir } = self;
-        let e = p.factors.exposure;
-        let k = p.factors.contact;
+        let Given { f, p, t, dir } = self;
+        let e = f.exposure;
+        let k = f.contact;
         let x = t.toxicity;
         let pc = t.transfer.pc;
         let swallowed = product3(x.sfo.mul(k.ir, dir), e.ef, e.ed, dir);
@@ -137,11 +139,11 @@ impl Given {
 
     // Water, chemical, hazard: ingestion, vapour and skin.
     fn water_chemical_hazard(self) -> PathwayTerms
-        ensures { SideFor self.dir self.p.factors self.t (pathways_of 2 1 Hazard) result }
+        ensures { SideFor self.dir self.f self.t (pathways_of 2 1 Hazard) result }
     {
-        let Given { p, t, dir } = self;
-        let e = p.factors.exposure;
-        let k = p.factors.contact;
+        let Given { f, p, t, dir } = self;
+        let e = f.exposure;
+        let k = f.contact;
         let x = t.toxicity;
         let pc = t.transfer.pc;
         let back = dir.opposite();
@@ -157,11 +159,11 @@ impl Given {
 
     // Water, radionuclide, risk: ingestion.
     fn water_radionuclide_risk(self) -> PathwayTerms
-        ensures { SideFor self.dir self.p.factors self.t (pathways_of 2 2 Risk) result }
+        ensures { SideFor self.dir self.f self.t (pathways_of 2 2 Risk) result }
     {
-        let Given { p, t, dir } = self;
-        let e = p.factors.exposure;
-        let k = p.factors.contact;
+        let Given { f, t, dir, .. } = self;
+        let e = f.exposure;
+        let k = f.contact;
         let x = t.toxicity;
         PathwayTerms {
             first: product3(x.sfo.mul(k.ir, dir), e.ef, e.ed, dir),
@@ -173,12 +175,12 @@ impl Given {
     // Water, tritium, risk: ingestion, inhalation and skin.
     fn water_tritium_risk(self) -> PathwayTerms
         requires { self.p.medium ≡ Water }
-        ensures { SideFor self.dir self.p.factors self.t (pathways_of 2 3 Risk) result }
+        ensures { SideFor self.dir self.f self.t (pathways_of 2 3 Risk) result }
     {
-        let Given { p, t, dir } = self;
-        let e = p.factors.exposure;
-        let k = p.factors.contact;
-        let house = p.factors.house;
+        let Given { f, p, t, dir } = self;
+        let e = f.exposure;
+        let k = f.contact;
+        let house = f.house;
         let x = t.toxicity;
         let breathed = product3(
             product3(x.sfi, k.ira, house.m, dir),
@@ -207,11 +209,22 @@ fn no_side() -> PathwayTerms
 }
 
 // The terms of both sides for a class, in the medium that was prepared for.
-pub fn terms_of(p: &Prepared, t: &ContaminantNumbers, class: Class, dir: Direction) -> Terms
-    requires { Ready dir p.now t.now }
-    ensures { TermsFor dir p.now.factors t.now (medium_number p.now.medium) (class_number class) result }
+pub fn terms_of(
+    f: &Factors,
+    p: &Prepared,
+    t: &ContaminantNumbers,
+    class: Class,
+    dir: Direction,
+) -> Terms
+    requires { Ready dir f.now p.now t.now }
+    ensures { TermsFor dir f.now t.now (medium_number p.now.medium) (class_number class) result }
 {
-    let given = Given { p: *p, t: *t, dir };
+    let given = Given {
+        f: *f,
+        p: *p,
+        t: *t,
+        dir,
+    };
     match (class, p.medium) {
         (Class::Chemical, Medium::Soil) => {
             let b = given.air();

@@ -6,9 +6,7 @@ use Rattle.inputs.specs.declared.Scenario.{Scenario}
 use Rattle.inputs.specs.declared.Contaminant.{Contaminant}
 use Rattle.factors.specs.declared.numbers.Factors.{Factors}
 use Rattle.factors.specs.declared.numbers.ContaminantNumbers.{ContaminantNumbers}
-use Rattle.factors.specs.declared.prepared.Prepared.{Prepared}
 use Rattle.factors.specs.Stands.{FactorsFor, NumbersFor}
-use Rattle.factors.specs.Prepared.{PreparedFor}
 use Rattle.factors.proofs.StandsLaws.{all_own}
 use Rattle.terms.specs.Side.{Terms}
 use Rattle.terms.specs.Side.{TermsFor}
@@ -23,14 +21,14 @@ use Rattle.guideline.proofs.worked_out.Goals as goal
 -- ---- what the code has worked out: the kinds, the terms, then the columns
 module _ {s : Scenario} {medium : ℕ} {r : Contaminant} {m n : ℕ}
     (a : m ≡ medium) (b : n ≡ r.class) (i : Accepted s medium r)
-    {f : Factors} {p : Prepared} {t : ContaminantNumbers} {k : Terms} where
-  terms_worked : FactorsFor s f → PreparedFor Up f p → NumbersFor r t → TermsFor Up p.factors t m n k → TermsOf s medium r f p t k
-  terms_worked g h l u =
-      record { inputs = i; factors = g; prepared = h; numbers = l; terms = terms_at a b u }
+    {f : Factors} {t : ContaminantNumbers} {k : Terms} where
+  terms_worked : FactorsFor s f → NumbersFor r t → TermsFor Up f t m n k → TermsOf s medium r f t k
+  terms_worked g l u =
+      record { inputs = i; factors = g; numbers = l; terms = terms_at a b u }
 
-  columns_filled : FactorsFor s f → PreparedFor Up f p → NumbersFor r t → TermsFor Up p.factors t m n k → {v w : Column} →
-      ColumnFor f.targets.tr k.risk v × ColumnFor f.targets.thi k.hazard w → ColumnsOf s medium r f p t k v w
-  columns_filled g h l u q = record { terms = terms_worked g h l u; risk = q.0; hazard = q.1 }
+  columns_filled : FactorsFor s f → NumbersFor r t → TermsFor Up f t m n k → {v w : Column} →
+      ColumnFor f.targets.tr k.risk v × ColumnFor f.targets.thi k.hazard w → ColumnsOf s medium r f t k v w
+  columns_filled g l u q = record { terms = terms_worked g l u; risk = q.0; hazard = q.1 }
 
 -- ---- the calls
 pub of-medium-requires : goal.of-medium-requires
@@ -43,19 +41,19 @@ pub prepare-p-requires : goal.prepare-p-requires
 prepare-p-requires c = all_own c.scenario_numbers-f.ensures
 
 pub terms_of-side-requires : goal.terms_of-side-requires
-terms_of-side-requires c = ready c.prepare-p.ensures.0 c.contaminant_numbers-t.ensures
+terms_of-side-requires c = ready c.prepare-p.ensures.0 c.scenario_numbers-f.ensures c.contaminant_numbers-t.ensures
 
 pub columns_of-columns-requires : goal.columns_of-columns-requires
 columns_of-columns-requires c =
     wide (terms_worked (ap medium_number c.prepare-p.ensures.1 ∙ c.of-medium.ensures) c.of-class.ensures c.requires
-    c.scenario_numbers-f.ensures c.prepare-p.ensures.0 c.contaminant_numbers-t.ensures c.terms_of-side.ensures)
+    c.scenario_numbers-f.ensures c.contaminant_numbers-t.ensures c.terms_of-side.ensures)
 
 pub decimals-requires : goal.decimals-requires
 decimals-requires c =
     column_printable
     (risk_column
     (columns_filled (ap medium_number c.prepare-p.ensures.1 ∙ c.of-medium.ensures) c.of-class.ensures c.requires
-    c.scenario_numbers-f.ensures c.prepare-p.ensures.0 c.contaminant_numbers-t.ensures c.terms_of-side.ensures
+    c.scenario_numbers-f.ensures c.contaminant_numbers-t.ensures c.terms_of-side.ensures
     c.columns_of-columns.ensures))
 
 pub decimals-requires-2 : goal.decimals-requires-2
@@ -63,7 +61,7 @@ decimals-requires-2 c =
     column_printable
     (hazard_column
     (columns_filled (ap medium_number c.prepare-p.ensures.1 ∙ c.of-medium.ensures) c.of-class.ensures c.requires
-    c.scenario_numbers-f.ensures c.prepare-p.ensures.0 c.contaminant_numbers-t.ensures c.terms_of-side.ensures
+    c.scenario_numbers-f.ensures c.contaminant_numbers-t.ensures c.terms_of-side.ensures
     c.columns_of-columns.ensures))
 
 pub returns : goal.returns
@@ -71,5 +69,5 @@ returns c =
     rw (c.decimals.ensures, c.decimals-2.ensures)
     (both_are
     (columns_filled (ap medium_number c.prepare-p.ensures.1 ∙ c.of-medium.ensures) c.of-class.ensures c.requires
-    c.scenario_numbers-f.ensures c.prepare-p.ensures.0 c.contaminant_numbers-t.ensures c.terms_of-side.ensures
+    c.scenario_numbers-f.ensures c.contaminant_numbers-t.ensures c.terms_of-side.ensures
     c.columns_of-columns.ensures))

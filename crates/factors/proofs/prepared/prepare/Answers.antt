@@ -54,8 +54,6 @@ returns c =
     let dir = c.args.dir in
     let factor = stands_at c.requires in (
       record {
-        same = refl;
-        ready = c.requires;
         lifetime = rw (← c.opposite.ensures) (stands_mul3 c.opposite.result (factor BW) (factor AT) days_stands (lit≤ tt) c.product3-lifetime.ensures.0);
         soil_intake = stands_mul3 dir (factor IR) millionth_stands (factor EF) (lit≤ tt) c.product3-soil_intake.ensures.0;
         water_intake = stands_mul dir (factor IR) (factor EF) (lit≤ tt) c.mul-water_intake.ensures.0;

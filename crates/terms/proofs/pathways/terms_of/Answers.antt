@@ -13,7 +13,7 @@ unfolding pathways_of table
 returns-in-Radionuclide-Soil c =
     let a = c.args in
     let row = c.in-Radionuclide-Soil in
-    rw (row.is-0, row.is-1) (record { risk = c.soil_radionuclide_risk.ensures; hazard = no_terms a.dir a.p.now.factors a.t.now c.no_side.ensures })
+    rw (row.is-0, row.is-1) (record { risk = c.soil_radionuclide_risk.ensures; hazard = no_terms a.dir a.f.now a.t.now c.no_side.ensures })
 
 pub returns-in-Chemical-Water : goal.returns-in-Chemical-Water
 returns-in-Chemical-Water c =
@@ -25,7 +25,7 @@ unfolding pathways_of table
 returns-in-Radionuclide-Water c =
     let a = c.args in
     let row = c.in-Radionuclide-Water in
-    let hazard = no_terms a.dir a.p.now.factors a.t.now c.no_side-in-Radionuclide-Water.ensures in
+    let hazard = no_terms a.dir a.f.now a.t.now c.no_side-in-Radionuclide-Water.ensures in
     rw (row.is-0, row.is-1) (record { risk = c.water_radionuclide_risk.ensures; hazard = hazard })
 
 pub water_tritium_risk-requires : goal.water_tritium_risk-requires
@@ -36,7 +36,7 @@ unfolding pathways_of table
 returns-in-Tritium-Soil c =
     let a = c.args in
     let row = c.in-Tritium-Soil in
-    let none = no_terms a.dir a.p.now.factors a.t.now c.no_side-none.ensures in
+    let none = no_terms a.dir a.f.now a.t.now c.no_side-none.ensures in
     rw (row.is-0, row.is-1) (record { risk = none; hazard = none })
 
 pub returns-in-Tritium-Water : goal.returns-in-Tritium-Water
@@ -44,5 +44,5 @@ unfolding pathways_of table
 returns-in-Tritium-Water c =
     let a = c.args in
     let row = c.in-Tritium-Water in
-    let hazard = no_terms a.dir a.p.now.factors a.t.now c.no_side-in-Tritium-Water.ensures in
+    let hazard = no_terms a.dir a.f.now a.t.now c.no_side-in-Tritium-Water.ensures in
     rw (row.is-0, row.is-1) (record { risk = c.water_tritium_risk.ensures; hazard = hazard })

@@ -12,10 +12,10 @@ pub contaminant_numbers-x-requires : goal.contaminant_numbers-x-requires
 contaminant_numbers-x-requires c = (contaminant_parts c.args.r (inputs_of_lem c.requires).contaminant).0
 
 pub terms_of-above-requires : goal.terms_of-above-requires
-terms_of-above-requires c = ready c.args.self.now.ready.up c.contaminant_numbers-x.ensures
+terms_of-above-requires c = ready c.args.self.now.ready.up c.args.self.now.ready.factors c.contaminant_numbers-x.ensures
 
 pub terms_of-below-requires : goal.terms_of-below-requires
-terms_of-below-requires c = ready c.args.self.now.ready.down c.contaminant_numbers-x.ensures
+terms_of-below-requires c = ready c.args.self.now.ready.down c.args.self.now.ready.factors c.contaminant_numbers-x.ensures
 
 pub number_of-c-requires : goal.number_of-c-requires
 number_of-c-requires c = (contaminant_parts c.args.r (inputs_of_lem c.requires).contaminant).1

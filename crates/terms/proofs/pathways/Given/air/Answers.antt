@@ -28,4 +28,4 @@ unfolding air_number
 returns c =
     let a = c.args.self in
     let e = c.add.ensures.0 ∙ ap (λ (q : Number). sum_of a.dir q a.p.inverse_pef) c.div.ensures.0 in
-    record { stands = subst (λ (b : Number). Stands (two_width + 1) b (look (number_values a.dir a.p.factors a.t) B)) (sym e) (air_stands c.args.self.ready) }
+    record { stands = subst (λ (b : Number). Stands (two_width + 1) b (look (number_values a.dir a.f a.t) B)) (sym e) (air_stands c.args.self.ready) }

@@ -6,6 +6,7 @@ use Rattle.rounding.specs.declared.Number.{Number}
 use Rattle.rounding.specs.Operations.{product_of}
 use Rattle.formulas.specs.Side.{Hazard}
 use Rattle.formulas.specs.Formula.{B, Days, EF, BW, IRA, RfDo, RfDi, table, pathways_of, derived}
+use Rattle.factors.specs.declared.numbers.Factors.{Factors}
 use Rattle.factors.specs.declared.numbers.ContaminantNumbers.{ContaminantNumbers}
 use Rattle.factors.specs.declared.prepared.Prepared.{Prepared}
 use Rattle.factors.specs.Stands.{Stands}
@@ -16,8 +17,8 @@ use Rattle.terms.proofs.Products.{three_below, three_fit, quotient_fits}
 use Rattle.terms.proofs.pathways.Given.soil_chemical_hazard.Goals as goal
 
 -- ---- what the code multiplies by B
-module _ {dir : Direction} {p : Prepared} {t : ContaminantNumbers} (ready : Ready dir p t) where
-  intake : {a b : Number} → Air dir p t b → a ≡ product_of dir (product_of dir p.factors.contact.ira b) p.factors.exposure.ef → Stands 116 a (named dir p t (IRA ∷ B ∷ EF ∷ []))
+module _ {dir : Direction} {f : Factors} {p : Prepared} {t : ContaminantNumbers} (ready : Ready dir f p t) where
+  intake : {a b : Number} → Air dir f t b → a ≡ product_of dir (product_of dir f.contact.ira b) f.exposure.ef → Stands 116 a (named dir f t (IRA ∷ B ∷ EF ∷ []))
   intake air e = stands_mul3 dir (input ready IRA) air.stands (input ready EF) (lit≤ tt) e
 
 -- ---- what it may multiply and divide

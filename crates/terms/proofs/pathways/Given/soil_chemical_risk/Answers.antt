@@ -6,6 +6,7 @@ use Rattle.rounding.specs.declared.Number.{Number}
 use Rattle.rounding.specs.Operations.{product_of}
 use Rattle.formulas.specs.Side.{Risk}
 use Rattle.formulas.specs.Formula.{B, Millionth, EF, ED, IR, IRA, SFo, SFi, table, pathways_of, derived}
+use Rattle.factors.specs.declared.numbers.Factors.{Factors}
 use Rattle.factors.specs.declared.numbers.ContaminantNumbers.{ContaminantNumbers}
 use Rattle.factors.specs.declared.prepared.Prepared.{Prepared}
 use Rattle.factors.specs.Stands.{Stands}
@@ -16,8 +17,8 @@ use Rattle.terms.proofs.Products.{three_inputs, two_more, three_fit, two_more_fi
 use Rattle.terms.proofs.pathways.Given.soil_chemical_risk.Goals as goal
 
 -- ---- what the code multiplies by B
-module _ {dir : Direction} {p : Prepared} {t : ContaminantNumbers} (ready : Ready dir p t) where
-  inhaled3 : {a b : Number} → Air dir p t b → a ≡ product_of dir (product_of dir t.toxicity.sfi p.factors.contact.ira) b → Stands 116 a (named dir p t (SFi ∷ IRA ∷ B ∷ []))
+module _ {dir : Direction} {f : Factors} {p : Prepared} {t : ContaminantNumbers} (ready : Ready dir f p t) where
+  inhaled3 : {a b : Number} → Air dir f t b → a ≡ product_of dir (product_of dir t.toxicity.sfi f.contact.ira) b → Stands 116 a (named dir f t (SFi ∷ IRA ∷ B ∷ []))
   inhaled3 air e = stands_mul3 dir (input ready SFi) (input ready IRA) air.stands (lit≤ tt) e
 
 -- ---- what it may multiply and divide

@@ -6,6 +6,7 @@ use Rattle.rounding.specs.declared.Number.{Number}
 use Rattle.rounding.specs.Operations.{product_of}
 use Rattle.formulas.specs.Side.{Risk}
 use Rattle.formulas.specs.Formula.{Millionth, YearsPerHour, EF, ED, IR, IRA, PEF, ET, RF, SFo, SFi, SFx, table, pathways_of, derived}
+use Rattle.factors.specs.declared.numbers.Factors.{Factors}
 use Rattle.factors.specs.declared.numbers.ContaminantNumbers.{ContaminantNumbers}
 use Rattle.factors.specs.declared.prepared.Prepared.{Prepared}
 use Rattle.factors.specs.Stands.{Stands}
@@ -17,9 +18,9 @@ use Rattle.terms.proofs.Products.{two_inputs, three_inputs, two_more, three_fit,
 use Rattle.terms.proofs.pathways.Given.soil_radionuclide_risk.Goals as goal
 
 -- ---- what the code multiplies by 0.000114
-module _ {dir : Direction} {p : Prepared} {t : ContaminantNumbers} (ready : Ready dir p t) where
-  outdoors4 : {a b : Number} → a ≡ product_of dir (product_of dir t.toxicity.sfx p.factors.contact.et) p.factors.contact.rf →
-      b ≡ product_of dir a (num 114000000 2988) → Stands 115 b (named dir p t (SFx ∷ ET ∷ RF ∷ YearsPerHour ∷ []))
+module _ {dir : Direction} {f : Factors} {p : Prepared} {t : ContaminantNumbers} (ready : Ready dir f p t) where
+  outdoors4 : {a b : Number} → a ≡ product_of dir (product_of dir t.toxicity.sfx f.contact.et) f.contact.rf →
+      b ≡ product_of dir a (num 114000000 2988) → Stands 115 b (named dir f t (SFx ∷ ET ∷ RF ∷ YearsPerHour ∷ []))
   outdoors4 e g = stands_mul dir (three_inputs ready SFx ET RF e) (input ready YearsPerHour) (lit≤ tt) g
 
 -- ---- what it may multiply and divide

@@ -7,6 +7,7 @@ use Rattle.rounding.specs.Operations.{product_of}
 use Rattle.inputs.specs.declared.kind.Medium.TheVariants.{Water}
 use Rattle.formulas.specs.Side.{Risk}
 use Rattle.formulas.specs.Formula.{H, Thousandth, Thousand, EF, ED, IR, IRA, ET, SA, M, K, SFo, SFi, table, pathways_of, derived}
+use Rattle.factors.specs.declared.numbers.Factors.{Factors}
 use Rattle.factors.specs.declared.numbers.ContaminantNumbers.{ContaminantNumbers}
 use Rattle.factors.specs.declared.prepared.Prepared.{Prepared}
 use Rattle.factors.specs.Stands.{Stands}
@@ -18,10 +19,10 @@ use Rattle.terms.proofs.Products.{number, two_inputs, three_inputs, two_more, th
 use Rattle.terms.proofs.pathways.Given.water_tritium_risk.Goals as goal
 
 -- ---- what the code multiplies by H
-module _ {dir : Direction} {p : Prepared} {t : ContaminantNumbers} (ready : Ready dir p t) where
+module _ {dir : Direction} {f : Factors} {p : Prepared} {t : ContaminantNumbers} (ready : Ready dir f p t) where
   breathed5 : {a b : Number} → p.medium ≡ Water → a ≡ product_of dir (product_of dir (number ready SFi) (number ready IRA)) (number ready M) →
       b ≡ product_of dir (product_of dir a (number ready Thousandth)) p.hours →
-      Stands (three_width + input_width + hours_width + 2) b (named dir p t (SFi ∷ IRA ∷ M ∷ Thousandth ∷ H ∷ []))
+      Stands (three_width + input_width + hours_width + 2) b (named dir f t (SFi ∷ IRA ∷ M ∷ Thousandth ∷ H ∷ []))
   breathed5 water e g = stands_mul3 dir (three_inputs ready SFi IRA M e) (input ready Thousandth) (hours_stands ready water) (lit≤ tt) g
 
 -- ---- what it may multiply
