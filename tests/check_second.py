@@ -15,7 +15,7 @@ from second.decimals import DOWN, UP, ZERO, Decimal, add, divide, keeps_input_ru
 from second.guideline import guideline
 from second.promises import sum_faults
 from second.sums import sums
-from second.terms import CONTAMINANT_VALUES, SCENARIO_FACTORS, TABLE, inputs_of, split, terms_of
+from second.terms import CONTAMINANT_VALUES, SCENARIO_FACTORS, TABLE, inputs_of, rounded_factor, split, terms_of
 from site_example import tritium_case
 
 OFFICE_WORKER = {
@@ -49,6 +49,17 @@ def tritium_figures():
     yield "tritium: hazard guidelines", answer.guidelines[4:], (ZERO,) * 4
     yield "tritium: sums", total.sums, ((765275260, -15), (765275270, -15), ZERO, ZERO)
     yield "tritium: verdicts", total.verdicts, (1, 4)
+    yield from hours_figures(inputs_of(case.scenario, case.record))
+
+
+def hours_figures(inputs):
+    """H of the example, in each direction, without ET, with a zero factor in its second part, and without either part."""
+    no_et, no_n = {**inputs, "ET": ZERO}, {**inputs, "N": ZERO}
+    yield "H up", rounded_factor("H", inputs, UP), (266904093, -9)
+    yield "H down", rounded_factor("H", inputs, DOWN), (266904092, -9)
+    yield "H up, ET zero", rounded_factor("H", no_et, UP), (999040921, -10)
+    yield "H up, N zero", rounded_factor("H", no_n, UP), (167000000, -9)
+    yield "H up, ET and N zero", rounded_factor("H", {**no_et, "N": ZERO}, UP), ZERO
 
 
 def marked_figures():

@@ -8,7 +8,8 @@ use Rattle.words.specs.Words.{word_at, zeros}
 use Rattle.decimal.specs.declared.Decimal.{Decimal}
 use Rattle.fields.specs.Fields.{decimals_at, fields_ok, unused_zero}
 use Rattle.fields.proofs.Fields.{fields_split}
-use Rattle.inputs.specs.Inputs.{exposure_of, contact_of, targets_of, house_of, toxicity_of, transfer_of, scenario_of, contaminant_of, scenario_decimals, contaminant_decimals, scenario_places, contaminant_places}
+use Rattle.inputs.specs.Inputs.{exposure_of, contact_of, targets_of, house_of, toxicity_of, transfer_of, scenario_of, contaminant_of}
+use Rattle.inputs.specs.Inputs.{scenario_decimals, contaminant_decimals, scenario_places, contaminant_places}
 use Rattle.inputs.specs.Valid.{all_valid}
 use Rattle.inputs.specs.Rules.{one_to, most_medium, most_class, scenario_fits, contaminant_fits}
 use Rattle.block_rules.specs.Pieces.{Word, Decimals, Unused, header_pieces, contaminant_pieces, unused_bytes, unused_in}

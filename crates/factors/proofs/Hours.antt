@@ -1,7 +1,6 @@
 -- What the code works out of a scenario's house stands for H; without L or without W the part of the shower is zero, and H is ET. Assumes nothing.
 use mathlib.Core.Path.{◌≡◌, refl, sym, ap, subst, ◌∙◌}
 use mathlib.Core.Bool.{Bool, true, false, false≢true, ◌||◌}
-use Prim.Native.Nat.{ℕ}
 use lib.Dec.{eqb, lit≤}
 use borrow.Author.Tests.{eqb-true}
 use Rattle.rounding.specs.declared.Direction.{Direction}
@@ -18,29 +17,8 @@ use Rattle.factors.specs.declared.numbers.Factors.{Factors}
 use Rattle.factors.specs.Widths.{three_width, four_width, two_width, shower_width, hours_width}
 use Rattle.factors.specs.Stands.{Stands, ReadyFactors}
 use Rattle.factors.specs.Prepared.{shower_of, hours_of}
+use Rattle.factors.proofs.Places.{ET, F, N, S, Vol, L, W}
 use Rattle.factors.proofs.StandsLaws.{stands_at, stands_mul, stands_mul3, stands_div, stands_add, stands_is, stands_most, stands_value}
-
--- the places of the factors that are named here
-abbrev pub ET : ℕ
-ET = 7
-
-abbrev pub F : ℕ
-F = 13
-
-abbrev pub N : ℕ
-N = 14
-
-abbrev pub S : ℕ
-S = 15
-
-abbrev pub Vol : ℕ
-Vol = 16
-
-abbrev pub L : ℕ
-L = 17
-
-abbrev pub W : ℕ
-W = 18
 
 module _ (dir : Direction) {f : Factors} (ready : ReadyFactors f) where
   -- ---- the second part, as the code works it out
@@ -65,7 +43,12 @@ module _ (dir : Direction) {f : Factors} (ready : ReadyFactors f) where
   hours_stand s e = stands_add dir {v = shower_width} (stands_most (lit≤ tt) (stands_at ready ET)) s (lit≤ tt) (lit≤ tt) e
 
   -- ---- whatever the code works out, both are zero or have nine digits
-  shower_stands : Stands shower_width (quotient_of dir (product_of dir (product_of dir (product_of dir f.house.f f.house.n) f.house.s) f.house.v) (product_of (opposite dir) f.house.l f.house.w)) (shower_of dir f)
+  abbrev shower_number : Number
+  shower_number =
+      let x = f.house in
+      quotient_of dir (product_of dir (product_of dir (product_of dir x.f x.n) x.s) x.v) (product_of (opposite dir) x.l x.w)
+
+  shower_stands : Stands shower_width shower_number (shower_of dir f)
   shower_stands = stands_div dir (four_stands refl refl) (air_stands refl refl) (lit≤ tt) refl
 
   pub shower_value : Value (ends shower_width shower_width) (shower_of dir f)

@@ -1,3 +1,4 @@
 pub mod StandsLaws
 pub mod Constants
 pub mod Hours
+pub mod Places

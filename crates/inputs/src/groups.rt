@@ -14,7 +14,7 @@ pub struct Exposure<T> {
 }
 
 // How much meets the body: ingestion, mg of soil or litres of water a day; inhalation, m³ a day (m³ an hour in a list with tritium);
-// particulate emission factor, m³/kg; hours a day, outdoors or with skin in water; dose reduction factor; skin, cm² (m² in a list
+// particulate emission factor, m³/kg; hours a day, outdoors, with skin in water, or in the shower (tritium); dose reduction factor; skin, cm² (m² in a list
 // with tritium).
 #[derive(Clone, Copy)]
 pub struct Contact<T> {

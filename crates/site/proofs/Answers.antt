@@ -43,7 +43,7 @@ module _ {site : List ℕ} {h : Header} (o : Opened site h) where
     passed : result_and found sums ≡ sums
     passed = rw z refl
 
-    -- every record keeps its rules and has a pathway
+    -- every record keeps its rules and passes its tests standing alone
     pub checked_records : (k : ℕ) → 1 ≤ k → k < 1 + h.count → RecordOk h.scenario h.medium (record_at site k)
     checked_records = check_ok h.scenario h.medium site h.count 1 none_before z
 

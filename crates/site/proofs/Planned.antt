@@ -1,4 +1,4 @@
--- A site whose blocks were all found: its plan is not refused, its records can be written, and what is written is the answer. Assumes nothing.
+-- A site whose blocks were all found: its records can be written, and what is written is the answer. Assumes nothing.
 use mathlib.Core.Path.{◌≡◌, sym, ap₂, ◌∙◌}
 use mathlib.Core.List.{List}
 use Prim.Native.Nat.{ℕ, ◌≤◌}
@@ -23,7 +23,7 @@ use Rattle.site.proofs.Answers.{checking, checked_records, answer_sums, left_acc
 use Rattle.site_rules.proofs.Opened.{count_some, count_most}
 use Rattle.site_rules.proofs.SameSums.{first_accepted}
 
--- the plan of a site whose blocks were found is never refused
+-- of the tests before the first record none holds
 pub first_found : {site : List ℕ} {h : Header} → Opened site h → first_refusal h.scenario h.medium h.count ≡ Ok tt
 first_found {site} {h} o = first_accepted h.scenario h.medium h.count (count_some o) (count_most o) (checking o).fits (checking o).known
 

@@ -122,7 +122,8 @@ module _ (s : Scenario) (medium : ℕ) (site : List ℕ) where
 
   later_table : (n : ℕ) (out : ℕ) → 512 * n + 512 ≤ length site →
       let sums = all_sums s medium (records_from site n 1) in
-      with_room (length site) out (result_and (check_blocks s medium site n 1 none_before) sums) ≡ first_holding (later_conditions s medium site n 1 none_before ++ room_condition site out ∷ []) sums
+      with_room (length site) out (result_and (check_blocks s medium site n 1 none_before) sums) ≡
+      first_holding (later_conditions s medium site n 1 none_before ++ room_condition site out ∷ []) sums
   unfolding with_room
   later_table n out l =
       let sums = all_sums s medium (records_from site n 1) in

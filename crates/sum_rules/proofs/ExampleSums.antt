@@ -19,11 +19,11 @@ use Rattle.sum_rules.specs.ListCall.{first_refusal, walk, sums_of}
 use Rattle.sum_rules.specs.Example.{example, printed, tritium_printed}
 
 pub example_sums : sums_of office 1 example ≡ printed
-unfolding is_operand mul_of div_of add_of working_of at_most_of cut_of round_of product_of quotient_of aligned_of sum_of nine_of valid_of table pathways_of derived present_of term_of total_of values_of side_of
-    term_sum used_of share_of has_pathway record_refusal first_refusal scenario_refusal verdict_of walk sums_of
+unfolding is_operand mul_of div_of add_of working_of at_most_of cut_of round_of product_of quotient_of aligned_of sum_of nine_of valid_of table pathways_of derived present_of
+    term_of total_of values_of side_of term_sum used_of share_of has_pathway record_refusal first_refusal scenario_refusal verdict_of walk sums_of
 example_sums = refl
 
 pub tritium_sums : sums_of resident 2 (tritium ∷ []) ≡ tritium_printed
-unfolding is_operand mul_of div_of add_of working_of at_most_of cut_of round_of product_of quotient_of aligned_of sum_of nine_of valid_of table pathways_of derived present_of term_of total_of values_of side_of
-    term_sum used_of share_of has_pathway record_refusal first_refusal scenario_refusal verdict_of walk sums_of
+unfolding is_operand mul_of div_of add_of working_of at_most_of cut_of round_of product_of quotient_of aligned_of sum_of nine_of valid_of table pathways_of derived present_of
+    term_of total_of values_of side_of term_sum used_of share_of has_pathway record_refusal first_refusal scenario_refusal verdict_of walk sums_of
 tritium_sums = refl

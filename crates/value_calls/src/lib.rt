@@ -99,7 +99,6 @@ fn print_factors<W: Write>(output: &mut W, s: Scenario) -> io::Result<()>
 }
 
 // Prints a built-in scenario: refusal, block, factors, zeros where it is refused.
-#[tactic(auto, unfolding(inputs::specs::Inputs::scenario_of, inputs::specs::Inputs::exposure_of, inputs::specs::Inputs::contact_of, inputs::specs::Inputs::targets_of, inputs::specs::Inputs::house_of))]
 fn print_built_in<W: Write>(output: &mut W, b: Result<Scenario, Refused>) -> io::Result<()>
     ensures { OnOk result (Appends (W.contents output.old) (W.contents output.new) (built_in_text b)) }
 {

@@ -1,7 +1,8 @@
 -- `factors::prepared::hours`: what the code works out is H, and where it works out nothing H is ET.
 use lib.Dec.{lit≤}
 use Rattle.factors.proofs.StandsLaws.{stands_at, stands_div, stands_middle, stands_operand}
-use Rattle.factors.proofs.Hours.{ET, F, N, S, Vol, L, W, three_stands, four_stands, air_stands, hours_stand, hours_alone}
+use Rattle.factors.proofs.Places.{ET, F, N, S, Vol, L, W}
+use Rattle.factors.proofs.Hours.{three_stands, four_stands, air_stands, hours_stand, hours_alone}
 use Rattle.factors.proofs.prepared.hours.Goals as goal
 
 pub returns-then-x : goal.returns-then-x

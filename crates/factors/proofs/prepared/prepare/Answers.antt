@@ -1,28 +1,10 @@
 -- `factors::prepared::prepare`: each product stands for the product of the decimals that its factors stand for.
-use Rattle.std.proofs.Common.{ℕ, refl}
+use Rattle.std.proofs.Common.{refl}
 use lib.Dec.{lit≤}
+use Rattle.factors.proofs.Places.{EF, BW, AT, IR, IRA, PEF}
 use Rattle.factors.proofs.StandsLaws.{stands_at, stands_mul, stands_mul3, stands_div, stands_middle, stands_operand}
 use Rattle.factors.proofs.Constants.{unit_stands, millionth_stands, half_stands, days_stands}
 use Rattle.factors.proofs.prepared.prepare.Goals as goal
-
--- the places of the factors that are named here
-abbrev EF : ℕ
-EF = 0
-
-abbrev BW : ℕ
-BW = 2
-
-abbrev AT : ℕ
-AT = 3
-
-abbrev IR : ℕ
-IR = 4
-
-abbrev IRA : ℕ
-IRA = 5
-
-abbrev PEF : ℕ
-PEF = 6
 
 pub product3-lifetime-requires : goal.product3-lifetime-requires
 product3-lifetime-requires c =
