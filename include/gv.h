@@ -56,8 +56,9 @@ struct gv_decimal {
 };
 
 /* A header: medium 1 soil, 2 water; how many contaminants follow, 1 to 120; the scenario, its last eight decimals for tritium
-   in water: m g/m3, f share of the day, n showers a day, s shower volumes, v and w m3, l per hour, k m/hour (docs/USERS.md). With tritium in the site sa is in square metres and ira in cubic metres an hour, otherwise in square centimetres and
-   cubic metres a day. Every byte of `zero` is 0, as it is where a struct is initialized, = {0} or by names. */
+   in water: m g/m3, f share of the day, n showers a day, s shower volumes, v and w m3, l per hour, k m/hour (docs/USERS.md).
+   With tritium in the site sa is in square metres and ira in cubic metres an hour, otherwise in square centimetres and cubic
+   metres a day. Every byte of `zero` is 0, as it is where a struct is initialized, = {0} or by names. */
 struct gv_header {
     uint32_t medium, count;
     struct gv_decimal ef, ed, bw, at, ir, ira, pef, et, rf, sa, tr, thi;

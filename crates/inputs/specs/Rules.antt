@@ -51,10 +51,11 @@ scenario_refusal s medium = refused_by (scenario_tests s medium)
 abbrev pub contaminant_fits : Contaminant → Bool
 contaminant_fits r = one_to most_class r.class && (not (eqb r.id 0) && all_valid (contaminant_decimals r))
 
--- 12: tritium where the house has no L or no W, or in soil
+-- a record of the class
 abbrev pub is_class : Class → Contaminant → Bool
 is_class k r = eqb r.class (class_number k)
 
+-- 12: tritium where the house has no L or no W, or in soil
 abbrev pub lacks_house : Scenario → ℕ → Contaminant → Bool
 lacks_house s medium r = is_class Tritium r && (eqb s.house.l.m 0 || (eqb s.house.w.m 0 || eqb medium (medium_number Soil)))
 
