@@ -44,7 +44,9 @@ module _ (dir : Direction) (p q : Number) (a : Operand p) (b : Operand q) where
       let d = again_operand q b in
       ap (λ (t : Bool). cond t (decimal_of (product_of dir (again p a) (again q b))) zero_of) both ∙
       same_rounding dir (worth p * worth q) one _ _ one_pos
-      (subst (λ (v : ℕ). Rounds dir v one (product_of dir (again p a) (again q b))) (ap (λ (v : ℕ). v * worth (again q b)) (again_worth p a) ∙ ap (λ (v : ℕ). worth p * v) (again_worth q b)) (product_rounds dir (again p a) (again q b) c.range d.range c.working d.working))
+      (subst (λ (v : ℕ). Rounds dir v one (product_of dir (again p a) (again q b)))
+      (ap (λ (v : ℕ). v * worth (again q b)) (again_worth p a) ∙ ap (λ (v : ℕ). worth p * v) (again_worth q b))
+      (product_rounds dir (again p a) (again q b) c.range d.range c.working d.working))
       (product_rounds dir p q a.range b.range a.working b.working)
 
   pub add_core : add_of (decimal_of p) (decimal_of q) dir ≡ decimal_of (sum_of dir p q)
@@ -54,7 +56,9 @@ module _ (dir : Direction) (p q : Number) (a : Operand p) (b : Operand q) where
       let d = again_operand q b in
       ap (λ (t : Bool). cond t (decimal_of (sum_of dir (again p a) (again q b))) zero_of) both ∙
       same_rounding dir (worth p + worth q) 1 _ _ (lit< tt)
-      (subst (λ (v : ℕ). Rounds dir v 1 (sum_of dir (again p a) (again q b))) (ap (λ (v : ℕ). v + worth (again q b)) (again_worth p a) ∙ ap (λ (v : ℕ). worth p + v) (again_worth q b)) (sum_rounds dir (again p a) (again q b) c.range d.range c.working d.working))
+      (subst (λ (v : ℕ). Rounds dir v 1 (sum_of dir (again p a) (again q b)))
+      (ap (λ (v : ℕ). v + worth (again q b)) (again_worth p a) ∙ ap (λ (v : ℕ). worth p + v) (again_worth q b))
+      (sum_rounds dir (again p a) (again q b) c.range d.range c.working d.working))
       (sum_rounds dir p q a.range b.range a.working b.working)
 
   nine_core : Nine q → div_of (decimal_of p) (decimal_of q) dir ≡ decimal_of (quotient_of dir p q)
@@ -73,5 +77,7 @@ module _ (dir : Direction) (p q : Number) (a : Operand p) (b : Operand q) where
   div_core = cases b.working
     where
       cases : Working q → div_of (decimal_of p) (decimal_of q) dir ≡ decimal_of (quotient_of dir p q)
-      cases (inl z) = ap (λ (d : Decimal). div_of (decimal_of p) d dir) (decimal_zero q z) ∙ div_zero dir (decimal_of p) ∙ sym (decimal_zero (quotient_of dir p q) (quotient_zero dir p q a.range b.range z))
+      cases (inl z) =
+          ap (λ (d : Decimal). div_of (decimal_of p) d dir) (decimal_zero q z) ∙ div_zero dir (decimal_of p) ∙
+          sym (decimal_zero (quotient_of dir p q) (quotient_zero dir p q a.range b.range z))
       cases (inr n) = nine_core n

@@ -84,11 +84,16 @@ module _ (dir : Direction) (a b : Decimal) (f : Operable a) (g : Operable b) whe
 
   pub mul_rounds : Rounds dir (value_of a * value_of b) one (plain_of (mul_of a b dir))
   unfolding mul_of
-  mul_rounds = subst (λ (v : ℕ). Rounds dir v one (plain_of (mul_of a b dir))) (sym (ap (λ (v : ℕ). v * value_of b) a_worth ∙ ap (λ (v : ℕ). worth p * v) b_worth)) (as_decimal _ one _ (mul_of a b dir) (rw both) (product_rounds dir p q pa.range qb.range pa.working qb.working))
+  mul_rounds =
+      subst (λ (v : ℕ). Rounds dir v one (plain_of (mul_of a b dir))) (sym (ap (λ (v : ℕ). v * value_of b) a_worth ∙ ap (λ (v : ℕ). worth p * v) b_worth))
+      (as_decimal _ one _ (mul_of a b dir) (rw both) (product_rounds dir p q pa.range qb.range pa.working qb.working))
 
   pub div_rounds : 0 < b.m → Rounds dir (value_of a * one) (value_of b) (plain_of (div_of a b dir))
   unfolding div_of
-  div_rounds h = subst (λ (v : ℕ). Rounds dir (v * one) (value_of b) (plain_of (div_of a b dir))) (sym a_worth) (subst (λ (v : ℕ). Rounds dir (worth p * one) v (plain_of (div_of a b dir))) (sym b_worth) (as_decimal _ (worth q) _ (div_of a b dir) (rw both) (quotient_rounds dir p q pa.range qb.range pa.working (nine qb.working))))
+  div_rounds h =
+      subst (λ (v : ℕ). Rounds dir (v * one) (value_of b) (plain_of (div_of a b dir))) (sym a_worth)
+      (subst (λ (v : ℕ). Rounds dir (worth p * one) v (plain_of (div_of a b dir))) (sym b_worth)
+      (as_decimal _ (worth q) _ (div_of a b dir) (rw both) (quotient_rounds dir p q pa.range qb.range pa.working (nine qb.working))))
     where
       nine : Working q → Nine q
       nine (inl z) = absurd (omega (arith, z, h))
@@ -96,7 +101,9 @@ module _ (dir : Direction) (a b : Decimal) (f : Operable a) (g : Operable b) whe
 
   pub add_rounds : Rounds dir (value_of a + value_of b) 1 (plain_of (add_of a b dir))
   unfolding add_of
-  add_rounds = subst (λ (v : ℕ). Rounds dir v 1 (plain_of (add_of a b dir))) (sym (ap (λ (v : ℕ). v + value_of b) a_worth ∙ ap (λ (v : ℕ). worth p + v) b_worth)) (as_decimal _ 1 _ (add_of a b dir) (rw both) (sum_rounds dir p q pa.range qb.range pa.working qb.working))
+  add_rounds =
+      subst (λ (v : ℕ). Rounds dir v 1 (plain_of (add_of a b dir))) (sym (ap (λ (v : ℕ). v + value_of b) a_worth ∙ ap (λ (v : ℕ). worth p + v) b_worth))
+      (as_decimal _ 1 _ (add_of a b dir) (rw both) (sum_rounds dir p q pa.range qb.range pa.working qb.working))
 
 -- a zero divisor gives (0, 0), and so does an operand that is none
 pub div_zero : (dir : Direction) (a : Decimal) → div_of a zero_of dir ≡ zero_of
@@ -104,7 +111,9 @@ unfolding div_of
 div_zero dir a = cases (is_operand (biased_of a)) refl
   where
     cases : (t : Bool) → is_operand (biased_of a) ≡ t → cond (t && is_operand (biased_of zero_of)) (decimal_of (quotient_of dir (biased_of a) (biased_of zero_of))) zero_of ≡ zero_of
-    cases true e = rw operable_zero.tested (decimal_zero (quotient_of dir (biased_of a) (biased_of zero_of)) (quotient_zero dir (biased_of a) (biased_of zero_of) (operand_is a e).range (operand_is zero_of operable_zero.tested).range refl))
+    cases true e = rw operable_zero.tested
+        (decimal_zero (quotient_of dir (biased_of a) (biased_of zero_of))
+        (quotient_zero dir (biased_of a) (biased_of zero_of) (operand_is a e).range (operand_is zero_of operable_zero.tested).range refl))
     cases false e = refl
 
 -- a zero factor, and a zero dividend, give (0, 0)

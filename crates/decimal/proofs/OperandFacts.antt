@@ -79,16 +79,19 @@ module _ (a b : Decimal) {o : Option (Number × Number)} (e : o ≡ operands_of 
 
 -- the result of an operation, by what is known of each of its calls
 pub operated : (a b : Decimal) (op : Number → Number → Number) {r : Decimal} {Post : Number → Number → Number → Type 0} → ((p q r : Number) → Post p q r → r ≡ op p q) →
-    MatchOption {T = Number × Number} (operands_of a b) (r ≡ zero_of) (λ t. (n : Number) × (Post t.0 t.1 n × (r ≡ decimal_of n))) → r ≡ cond (are_operands a b) (decimal_of (op (biased_of a) (biased_of b))) zero_of
+    MatchOption {T = Number × Number} (operands_of a b) (r ≡ zero_of) (λ t. (n : Number) × (Post t.0 t.1 n × (r ≡ decimal_of n))) →
+    r ≡ cond (are_operands a b) (decimal_of (op (biased_of a) (biased_of b))) zero_of
 unfolding operands_of
 operated a b op {r} {Post} f = cases (are_operands a b)
   where
-    cases : (v : Bool) → MatchOption {T = Number × Number} (cond v (Some (biased_of a, biased_of b)) None) (r ≡ zero_of) (λ t. (n : Number) × (Post t.0 t.1 n × (r ≡ decimal_of n))) → r ≡ cond v (decimal_of (op (biased_of a) (biased_of b))) zero_of
+    cases : (v : Bool) → MatchOption {T = Number × Number} (cond v (Some (biased_of a, biased_of b)) None) (r ≡ zero_of) (λ t. (n : Number) × (Post t.0 t.1 n × (r ≡ decimal_of n))) →
+        r ≡ cond v (decimal_of (op (biased_of a) (biased_of b))) zero_of
     cases true h = h.1.1 ∙ ap decimal_of (f _ _ _ h.1.0)
     cases false h = h
 
 -- ---- compared by worth
-pub compared : (a b : Decimal) {r : Bool} {Post : Number × Number → Type 0} → ((t : Number × Number) → Post t → r ≡ Number-atMostOf t.0 t.1) → MatchOption {T = Number × Number} (operands_of a b) (r ≡ false) Post → r ≡ at_most_of a b
+pub compared : (a b : Decimal) {r : Bool} {Post : Number × Number → Type 0} → ((t : Number × Number) → Post t → r ≡ Number-atMostOf t.0 t.1) →
+    MatchOption {T = Number × Number} (operands_of a b) (r ≡ false) Post → r ≡ at_most_of a b
 unfolding operands_of at_most_of
 compared a b {r} {Post} f = cases (are_operands a b) refl
   where

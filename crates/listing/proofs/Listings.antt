@@ -27,7 +27,8 @@ use Rattle.listing.proofs.ResultLines.{written}
 accepted_by : (site : List ℕ) (out : ℕ) {a : Result Sums Refused} → a ≡ site_answer site out → number_of a ≡ 0 → number_of (site_answer site out) ≡ 0
 accepted_by site out e z = ap (λ (x : Result Sums Refused). number_of x) (sym e) ∙ z
 
-pub answered : (site out : List ℕ) (a : Result Sums Refused) (results : List ℕ) → ((i : ℕ) → get_or site i 0 < 256) → a ≡ site_answer site (length out) → results ≡ site_left site out → Answered site results a
+pub answered : (site out : List ℕ) (a : Result Sums Refused) (results : List ℕ) → ((i : ℕ) → get_or site i 0 < 256) → a ≡ site_answer site (length out) →
+    results ≡ site_left site out → Answered site results a
 answered site out a results byte e f = record { written = λ z. subst (Written site) (sym f) (written site out (accepted_by site (length out) e z) byte) }
 
 -- ---- the text of an answer

@@ -90,7 +90,8 @@ fn put_listing(text: &mut Text, site: &[u8], results: &[u8], a: Result<Sums, Ref
 // Evaluates the site into `results` as the site call does, and puts its listing, read from there, at the start of `text`.
 // A text of fewer than 24,576 bytes is left as it was.
 pub fn list_site(site: &[u8], results: &mut [u8], text: &mut [u8]) -> Listed
-    ensures { (result.answer ≡ site_answer site.now (length results.old)) × ((result.length ≡ text_length site.now (length results.old) text.old) × ((results.new ≡ site_left site.now results.old) × (text.new ≡ text_left site.now (length results.old) text.old))) }
+    ensures { (result.answer ≡ site_answer site.now (length results.old)) × ((result.length ≡ text_length site.now (length results.old) text.old) ×
+        ((results.new ≡ site_left site.now results.old) × (text.new ≡ text_left site.now (length results.old) text.old))) }
 {
     let answer = site::evaluate(site, results);
     if text.len() < 24576 {

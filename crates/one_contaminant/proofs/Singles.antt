@@ -134,7 +134,8 @@ module _ (h : Header) (r : Contaminant) where
           record { is = is; header = good.0; known = good.1; fits = record_kept second }
 
 -- ---- what the site call makes of it
-module _ {h : Header} {r : Contaminant} {site : List ℕ} (w : Written h r site) (small : r.id < 4294967296) (d : List ℕ) (long : length d ≡ 1024) {b : Result Sums Refused} (e : b ≡ site_answer site (length d)) where
+module _ {h : Header} {r : Contaminant} {site : List ℕ} (w : Written h r site) (small : r.id < 4294967296) (d : List ℕ) (long : length d ≡ 1024)
+    {b : Result Sums Refused} (e : b ≡ site_answer site (length d)) where
   abbrev own : Result Guidelines Refused
   own = guideline_of h.scenario h.medium r
 

@@ -162,15 +162,22 @@ unfolding aligned_of round_of cut_of
 aligned_alone dir p q f z = rw (quotient, lt-ltb p.m 1000000000 f)
   where
     quotient : divide_of dir (p.m * 10 ^ gap_of p q + q.m) (10 ^ gap_of p q) ≡ p.m
-    quotient = divide_beside q.m (10 ^ gap_of p q) (pow_ten_pos (gap_of p q)) dir p.m ∙ ap (λ (v : ℕ). p.m + divide_of dir v (10 ^ gap_of p q)) z ∙ ap (λ (v : ℕ). p.m + v) (divide_zero dir (10 ^ gap_of p q) (pow_ten_pos (gap_of p q))) ∙ add-zero p.m
+    quotient =
+        divide_beside q.m (10 ^ gap_of p q) (pow_ten_pos (gap_of p q)) dir p.m ∙ ap (λ (v : ℕ). p.m + divide_of dir v (10 ^ gap_of p q)) z ∙
+        ap (λ (v : ℕ). p.m + v) (divide_zero dir (10 ^ gap_of p q) (pow_ten_pos (gap_of p q))) ∙ add-zero p.m
 
 pub sum_zero_right : (dir : Direction) (p q : Number) → p.m < 1000000000 → q.m ≡ 0 → sum_of dir p q ≡ p
 unfolding sum_of
-sum_zero_right dir p q f z = ap (λ (t : Bool). cond t (aligned_of dir p q) (aligned_of dir q p)) (le-leb (rank_of q) (rank_of p) (let e = rank_zero q z in omega (arith, e))) ∙ aligned_alone dir p q f z
+sum_zero_right dir p q f z =
+    ap (λ (t : Bool). cond t (aligned_of dir p q) (aligned_of dir q p)) (le-leb (rank_of q) (rank_of p) (let e = rank_zero q z in omega (arith, e))) ∙
+    aligned_alone dir p q f z
 
 pub sum_zero_left : (dir : Direction) (p q : Number) → p.m ≡ 0 → Nine q → 0 < q.x → sum_of dir p q ≡ q
 unfolding sum_of
-sum_zero_left dir p q z g h = ap (λ (t : Bool). cond t (aligned_of dir p q) (aligned_of dir q p)) (lt-leb (rank_of q) (rank_of p) (let e = rank_zero p z in let f = rank_nine q g in omega (arith, e, f))) ∙ aligned_alone dir q p g.most z
+sum_zero_left dir p q z g h =
+    ap (λ (t : Bool). cond t (aligned_of dir p q) (aligned_of dir q p))
+    (lt-leb (rank_of q) (rank_of p) (let e = rank_zero p z in let f = rank_nine q g in omega (arith, e, f))) ∙
+    aligned_alone dir q p g.most z
 
 pub sum_zero_both : (dir : Direction) (p q : Number) → p.m ≡ 0 → q.m ≡ 0 → (sum_of dir p q).m ≡ 0
 unfolding sum_of aligned_of

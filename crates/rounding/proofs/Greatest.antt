@@ -4,7 +4,8 @@ use mathlib.Core.Path.{◌≡◌, refl, sym, ap, subst, subst⁻¹, ◌∙◌}
 use mathlib.Core.Bool.{Bool, true, false, cond}
 use mathlib.Core.Logic.{inl, inr}
 use Prim.Native.Nat.{ℕ, ◌+◌, ◌-◌, ◌*◌, ◌^◌, ◌≤◌, ◌<◌}
-use native.Mathlib.Nat.{mul_right_comm, mul_assoc, mul-one, zero-mul, mul-lt-mul_of_pos_right, le_refl, le_trans, le_antisymm, le_of_lt, mul-le-mul_right, le_of_mul-le-mul_right, pow-le-pow_right, one-le-pow, pow-suc}
+use native.Mathlib.Nat.{mul_right_comm, mul_assoc, mul-one, zero-mul, mul-lt-mul_of_pos_right, le_refl, le_trans, le_antisymm, le_of_lt}
+use native.Mathlib.Nat.{mul-le-mul_right, le_of_mul-le-mul_right, pow-le-pow_right, one-le-pow, pow-suc}
 use native.Mathlib.Decide.{dec_lt}
 use native.Mathlib.Omega.{arith}
 use lib.Pow.{pow-add}
@@ -45,7 +46,9 @@ small k y x h l = omega (arith, mul_lt k (10 ^ y) h (pow_ten_pos y), rw pow-suc 
 -- ---- n / d * 10^x, where n / d is at least 10^8: any number of nine digits that is worth the whole quotient
 module _ (dir : Direction) (n d : ℕ) (h : 0 < d) (l : 100000000 * d ≤ n) where
   best_above : (x k j : ℕ) → Side dir (k * 10 ^ (x + j) * d) (n * 10 ^ x) → Side dir (k * 10 ^ (x + j)) (divide_of dir n d * 10 ^ x)
-  best_above x k j s = subst (λ (v : ℕ). Side dir v (divide_of dir n d * 10 ^ x)) again (side_scale dir (10 ^ x) (divide_best n d h dir (k * 10 ^ j) (side_cancel dir (10 ^ x) (pow_ten_pos x) (subst (λ (v : ℕ). Side dir v (n * 10 ^ x)) moved s))))
+  best_above x k j s =
+      subst (λ (v : ℕ). Side dir v (divide_of dir n d * 10 ^ x)) again
+      (side_scale dir (10 ^ x) (divide_best n d h dir (k * 10 ^ j) (side_cancel dir (10 ^ x) (pow_ten_pos x) (subst (λ (v : ℕ). Side dir v (n * 10 ^ x)) moved s))))
     where
       again : k * 10 ^ j * 10 ^ x ≡ k * 10 ^ (x + j)
       again = rw (pow-add 10 x j) (omega arith)
@@ -63,7 +66,9 @@ best_below Up n d x k y h l q p s = absurd (clash (mul-lt-mul_of_pos_right (smal
 module _ (dir : Direction) (n d : ℕ) (h : 0 < d) (l : 100000000 * d ≤ n) where
   best_nine : (x k y : ℕ) → k < 1000000000 → Dec (y < x) → Side dir (k * 10 ^ y * d) (n * 10 ^ x) → Side dir (k * 10 ^ y) (divide_of dir n d * 10 ^ x)
   best_nine x k y q (yes p) s = best_below dir n d x k y h l q p s
-  best_nine x k y q (no p) s = subst (λ (v : ℕ). Side dir (k * 10 ^ v) (divide_of dir n d * 10 ^ x)) e (best_above dir n d h l x k (y - x) (subst⁻¹ (λ (v : ℕ). Side dir (k * 10 ^ v * d) (n * 10 ^ x)) e s))
+  best_nine x k y q (no p) s =
+      subst (λ (v : ℕ). Side dir (k * 10 ^ v) (divide_of dir n d * 10 ^ x)) e
+      (best_above dir n d h l x k (y - x) (subst⁻¹ (λ (v : ℕ). Side dir (k * 10 ^ v * d) (n * 10 ^ x)) e s))
     where
       e : x + (y - x) ≡ y
       e = omega (arith, p)

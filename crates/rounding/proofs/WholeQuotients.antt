@@ -2,7 +2,8 @@
 use mathlib.Core.Path.{◌≡◌, sym, ap, ◌∙◌}
 use mathlib.Core.Logic.{⊎_elim}
 use Prim.Native.Nat.{ℕ, ◌+◌, ◌-◌, ◌*◌, ◌/◌, ◌≤◌, ◌<◌}
-use native.Mathlib.Nat.{add-zero, add_comm, le_of_mul-le-mul_right, lt_of_mul-lt-mul_right, div-add-mod', mod-lt, le-div_iff_mul-le, add-mul-div_right, div-div-eq-div-mul, mul_comm, div-eq_of_lt, div-eq_of_lt-le, eq-zero-or-pos}
+use native.Mathlib.Nat.{add-zero, add_comm, le_of_mul-le-mul_right, lt_of_mul-lt-mul_right, div-add-mod', mod-lt, le-div_iff_mul-le}
+use native.Mathlib.Nat.{add-mul-div_right, div-div-eq-div-mul, mul_comm, div-eq_of_lt, div-eq_of_lt-le, eq-zero-or-pos}
 use native.Mathlib.Omega.{arith}
 use Rattle.rounding.specs.declared.Direction.{Direction}
 use Rattle.rounding.specs.declared.Direction.TheVariants.{Down, Up}
@@ -36,7 +37,9 @@ module _ (n d : ℕ) (h : 0 < d) where
   -- a quotient divided again
   pub divide_divide : (dir : Direction) → divide_of dir (divide_of dir n d) 10 ≡ divide_of dir n (10 * d)
   divide_divide Down = rw (add-zero, add-zero, div-div-eq-div-mul, mul_comm d 10)
-  divide_divide Up = ap (λ (v : ℕ). v / 10) (sym (add-mul-div_right (n + (d - 1)) 9 h)) ∙ div-div-eq-div-mul (n + (d - 1) + 9 * d) d 10 ∙ ap (λ (v : ℕ). v / (d * 10)) lines ∙ ap (λ (v : ℕ). (n + (10 * d - 1)) / v) (mul_comm d 10)
+  divide_divide Up =
+      ap (λ (v : ℕ). v / 10) (sym (add-mul-div_right (n + (d - 1)) 9 h)) ∙ div-div-eq-div-mul (n + (d - 1) + 9 * d) d 10 ∙ ap (λ (v : ℕ). v / (d * 10)) lines ∙
+      ap (λ (v : ℕ). (n + (10 * d - 1)) / v) (mul_comm d 10)
     where
       lines : n + (d - 1) + 9 * d ≡ n + (10 * d - 1)
       lines = omega arith

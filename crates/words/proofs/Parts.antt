@@ -1,5 +1,6 @@
 -- What stands in a part of a list stands in the whole: bytes, words, zero bytes, a part of a part. Assumes nothing.
-use Rattle.std.proofs.Common.{◌≡◌, ℕ, zero, suc, ◌+◌, ◌<◌, ◌≤◌, Bool, ◌&&◌, eqb, List, [], ◌∷◌, length, get_or, take, drop, sym, refl, ap, ◌∙◌, ap₂, add-zero, add-one, add_assoc, arith, length-drop, length-take-le, get_or-drop, get_or-take, take-take, drop-drop}
+use Rattle.std.proofs.Common.{◌≡◌, ℕ, zero, suc, ◌+◌, ◌<◌, ◌≤◌, Bool, ◌&&◌, eqb, List, [], ◌∷◌, length, get_or, take, drop}
+use Rattle.std.proofs.Common.{sym, refl, ap, ◌∙◌, ap₂, add-zero, add-one, add_assoc, arith, length-drop, length-take-le, get_or-drop, get_or-take, take-take, drop-drop}
 use Rattle.words.specs.Words.{word_at, zeros, part_of}
 
 pub get_or_part : (s : List ℕ) (a n k : ℕ) → k < n → get_or (part_of s a n) k 0 ≡ get_or s (a + k) 0

@@ -1,5 +1,6 @@
 -- Bytes written over a list: lengths, one store after another, a part that was lent, and a writer's progress. Assumes nothing.
-use Rattle.std.proofs.Common.{◌≡◌, ℕ, suc, ◌+◌, ◌-◌, ◌<◌, ◌≤◌, List, [], ◌∷◌, ◌++◌, length, get_or, take, drop, set, sym, refl, ap, ◌∙◌, ap₂, append_assoc, append-nil, add-zero, arith, length-append, length-drop, take-append-drop, length-take-le, drop-cons, drop-drop, take_at, drop_at}
+use Rattle.std.proofs.Common.{◌≡◌, ℕ, suc, ◌+◌, ◌-◌, ◌<◌, ◌≤◌, List, [], ◌∷◌, ◌++◌, length, get_or, take, drop, set}
+use Rattle.std.proofs.Common.{sym, refl, ap, ◌∙◌, ap₂, append_assoc, append-nil, add-zero, arith, length-append, length-drop, take-append-drop, length-take-le, drop-cons, drop-drop, take_at, drop_at}
 use borrow.Rule.Slice.PartMut.{put_mid}
 use lib.Seq.{append_snoc, drop-append_seam, set_at, sets-eq, drop-length}
 use Rattle.words.specs.Words.{part_of}
