@@ -1,5 +1,5 @@
 -- What the code keeps of a scenario: the products that name no decimal of a contaminant.
-use Rattle.std.specs.Prelude.{[], ◌∷◌, ◌+◌, ◌-◌, ◌≤◌, ◌<◌, pos, negsuc, ◌≡◌}
+use Rattle.std.specs.Prelude.{ℕ, [], ◌∷◌, ◌+◌, ◌-◌, ◌≤◌, ◌<◌, pos, negsuc, ◌≡◌}
 use Rattle.rounding.specs.Sizes.{ten_digits, bias}
 use Rattle.rounding.specs.declared.Direction.{Direction}
 use Rattle.rounding.specs.declared.Number.{Number}
@@ -8,8 +8,8 @@ use Rattle.factors.specs.Widths.{two_width, three_width, hours_width, middle_wid
 use Rattle.decimal.specs.declared.Decimal.{Decimal}
 use Rattle.decimal.specs.Decimal.{decimal_of, add_of, div_of, working_of}
 use Rattle.decimal.specs.Lists.{product_of}
-use Rattle.inputs.specs.declared.kind.Medium.{Medium}
 use Rattle.inputs.specs.declared.kind.Medium.TheVariants.{Water}
+use Rattle.inputs.specs.Kinds.{medium_number}
 use Rattle.factors.specs.declared.numbers.Factors.{Factors}
 use Rattle.factors.specs.declared.prepared.Prepared.{Prepared}
 use Rattle.factors.specs.Stands.{Stands}
@@ -50,14 +50,14 @@ abbrev pub hours_of : Direction → Factors → Decimal
 hours_of dir f = add_of (decimal_of f.contact.et) (shower_of dir f) dir
 
 -- h is H in water, where a record may need it
-abbrev pub HoursFor : Direction → Medium → Factors → Number → Type 0
-HoursFor dir medium f h = medium ≡ Water → Stands hours_width h (hours_of dir f)
+abbrev pub HoursFor : Direction → ℕ → Factors → Number → Type 0
+HoursFor dir medium f h = medium ≡ medium_number Water → Stands hours_width h (hours_of dir f)
 
--- p holds the products of the factors f in a direction
-pub record PreparedFor (dir : Direction) (f : Factors) (p : Prepared) : Type 0 where
+-- p holds the products of the factors f in a direction, and H for a medium
+pub record PreparedFor (dir : Direction) (medium : ℕ) (f : Factors) (p : Prepared) : Type 0 where
   pub lifetime : Stands three_width p.lifetime (product_of (opposite dir) (decimal_of f.exposure.bw ∷ decimal_of f.exposure.at ∷ days ∷ []))
   pub soil_intake : Stands three_width p.soil_intake (product_of dir (decimal_of f.contact.ir ∷ millionth ∷ decimal_of f.exposure.ef ∷ []))
   pub water_intake : Stands two_width p.water_intake (product_of dir (decimal_of f.contact.ir ∷ decimal_of f.exposure.ef ∷ []))
   pub vapour_intake : Stands three_width p.vapour_intake (product_of dir (decimal_of f.contact.ira ∷ half ∷ decimal_of f.exposure.ef ∷ []))
   pub inverse_pef : Stands two_width p.inverse_pef (div_of unit (decimal_of f.contact.pef) dir)
-  pub hours : HoursFor dir p.medium f p.hours
+  pub hours : HoursFor dir medium f p.hours

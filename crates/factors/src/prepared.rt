@@ -1,6 +1,7 @@
 // What the terms of a scenario have in common: the products that name no decimal of a contaminant, worked out once.
 ghost use Rattle.std.specs.Prelude.{◌≡◌};
 ghost use Rattle.rounding.specs.Operations.{product_of};
+ghost use Rattle.inputs.specs.Kinds.{medium_number};
 ghost use Rattle.factors.specs.Stands.{ReadyFactors};
 ghost use Rattle.factors.specs.Prepared.{Middle, Product3, HoursFor, PreparedFor};
 
@@ -29,11 +30,10 @@ pub const DAYS: Number = Number {
     x: BIAS - 6,
 };
 
-// The medium, and of a scenario's factors in a direction: the divisor BW, AT, 365 of every risk term of a chemical
-// (rounded the other way); the dividends of hazard by ingestion of soil, of water and by vapour; 1 / PEF; and H, in water.
+// Of a scenario's factors in a direction: the divisor BW, AT, 365 of every risk term of a chemical (rounded the other way);
+// the dividends of hazard by ingestion of soil, of water and by vapour; 1 / PEF; and H, where the medium is water.
 #[derive(Clone, Copy)]
 pub struct Prepared {
-    pub medium: Medium,
     pub lifetime: Number,
     pub soil_intake: Number,
     pub water_intake: Number,
@@ -54,7 +54,7 @@ pub fn product3(a: Number, b: Number, c: Number, dir: Direction) -> Number
 // soil no record needs H.
 fn hours(f: &Factors, medium: Medium, dir: Direction) -> Number
     requires { ReadyFactors f.now }
-    ensures { HoursFor dir medium f.now result }
+    ensures { HoursFor dir (medium_number medium) f.now result }
 {
     if matches!(medium, Medium::Soil) {
         return Number::ZERO;
@@ -72,7 +72,7 @@ fn hours(f: &Factors, medium: Medium, dir: Direction) -> Number
 // What a scenario gives in a medium and a direction.
 pub fn prepare(f: &Factors, medium: Medium, dir: Direction) -> Prepared
     requires { ReadyFactors f.now }
-    ensures { PreparedFor dir f.now result × (result.medium ≡ medium) }
+    ensures { PreparedFor dir (medium_number medium) f.now result }
 {
     let lifetime = product3(f.exposure.bw, f.exposure.at, DAYS, dir.opposite());
     let soil_intake = product3(f.contact.ir, MILLIONTH, f.exposure.ef, dir);
@@ -81,7 +81,6 @@ pub fn prepare(f: &Factors, medium: Medium, dir: Direction) -> Prepared
     let inverse_pef = ONE.div(f.contact.pef, dir);
     let hours = hours(f, medium, dir);
     Prepared {
-        medium,
         lifetime,
         soil_intake,
         water_intake,

@@ -93,7 +93,7 @@ fn worked_out(s: Scenario, medium: u32, r: Contaminant) -> Guidelines
     let f = factors::numbers::scenario_numbers(s);
     let p = factors::prepared::prepare(&f, medium, Direction::Up);
     let t = factors::numbers::contaminant_numbers(r);
-    let side = terms::pathways::terms_of(&f, &p, &t, class, Direction::Up);
+    let side = terms::pathways::terms_of(&f, &p, &t, medium, class, Direction::Up);
     let columns = columns_of(f.targets, side);
     Guidelines {
         risk: decimals(columns.risk),

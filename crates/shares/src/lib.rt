@@ -81,13 +81,22 @@ impl Plan {
         requires { Workable self.now r }
         ensures { WorkedFor self.now r result }
     {
+        let medium = Medium::of(self.medium);
         let class = Class::of(r.class);
         let x = factors::numbers::contaminant_numbers(r);
-        let above = terms::pathways::terms_of(&self.factors, &self.up, &x, class, Direction::Up);
+        let above = terms::pathways::terms_of(
+            &self.factors,
+            &self.up,
+            &x,
+            medium,
+            class,
+            Direction::Up,
+        );
         let below = terms::pathways::terms_of(
             &self.factors,
             &self.down,
             &x,
+            medium,
             class,
             Direction::Down,
         );

@@ -18,6 +18,7 @@ use Rattle.factors.specs.declared.prepared.Prepared.{Prepared}
 use Rattle.terms.specs.declared.pathways.PathwayTerms.{PathwayTerms}
 use Rattle.factors.specs.Widths.{input_width, formula_width, two_width, hours_width}
 use Rattle.inputs.specs.declared.kind.Medium.TheVariants.{Water}
+use Rattle.inputs.specs.Kinds.{medium_number}
 use Rattle.decimal.specs.Range.{ends}
 use Rattle.factors.proofs.Hours.{shower_value, hours_value}
 use Rattle.formulas.specs.Side.{Side}
@@ -57,7 +58,7 @@ abbrev pub behind : ℕ → ℕ → ℕ
 behind zero k = k
 behind (suc m) k = suc (behind m k)
 
-module _ {dir : Direction} {f : Factors} {p : Prepared} {t : ContaminantNumbers} (r : Ready dir f p t) where
+module _ {dir : Direction} {m : ℕ} {f : Factors} {p : Prepared} {t : ContaminantNumbers} (r : Ready dir m f p t) where
   inputs_stand : StandAll (numbers f t) (number_inputs f t)
   inputs_stand = stands_join constants_stand (stands_join r.factors r.numbers)
 
@@ -132,7 +133,7 @@ module _ {dir : Direction} {f : Factors} {p : Prepared} {t : ContaminantNumbers}
       ap (λ (d : Decimal). summed dir d (shower_of dir f ∷ [])) (skip_first dir et_value) ∙
       skip_next dir et_value (shower_value dir r.factors)
 
-  pub hours_stands : p.medium ≡ Water → Stands hours_width p.hours (look (number_values dir f t) H)
+  pub hours_stands : m ≡ medium_number Water → Stands hours_width p.hours (look (number_values dir f t) H)
   hours_stands water = stands_is (sym hours_added) (r.prepared.hours water)
 
   hours_known : ZeroByDigits (look (number_values dir f t) H)

@@ -28,7 +28,7 @@ use Rattle.terms.proofs.NumberValues.{behind, numbers, named, named_below, input
 abbrev pub place : ℕ → ℕ
 place n = behind derived_places (n - derived_places)
 
-module _ {dir : Direction} {f : Factors} {p : Prepared} {t : ContaminantNumbers} (ready : Ready dir f p t) where
+module _ {dir : Direction} {medium : ℕ} {f : Factors} {p : Prepared} {t : ContaminantNumbers} (ready : Ready dir medium f p t) where
   -- the number of a name
   abbrev pub number : ℕ → Number
   number n = get_or (numbers f t) (n - derived_places) no_number

@@ -1,5 +1,5 @@
 -- The numbers of a scenario and a contaminant give the values of the definitions. Assumes nothing.
-use mathlib.Core.Path.{◌≡◌, ap₂, subst}
+use mathlib.Core.Path.{◌≡◌, sym, ap₂, subst}
 use mathlib.Core.List.{List, ◌++◌, map}
 use Rattle.rounding.specs.declared.Direction.{Direction}
 use Rattle.decimal.specs.declared.Decimal.{Decimal}
@@ -18,9 +18,10 @@ use Rattle.terms.specs.Side.{Terms}
 use Prim.Native.Nat.{ℕ}
 use Rattle.factors.proofs.StandsLaws.{all_own, all_same}
 
-pub ready : {dir : Direction} {f : Factors} {p : Prepared} {t : ContaminantNumbers} {ds es : List Decimal} → PreparedFor dir f p → StandAll (factor_numbers f) es →
-    StandAll (contaminant_numbers t) ds → Ready dir f p t
-ready h g k = record { prepared = h; factors = all_own g; numbers = all_own k }
+pub ready : {dir : Direction} {m medium : ℕ} {f : Factors} {p : Prepared} {t : ContaminantNumbers} {ds es : List Decimal} → m ≡ medium → PreparedFor dir medium f p →
+    StandAll (factor_numbers f) es → StandAll (contaminant_numbers t) ds → Ready dir m f p t
+ready {dir} {m} {medium} {f} {p} e h g k =
+    record { prepared = subst (λ (n : ℕ). PreparedFor dir n f p) (sym e) h; factors = all_own g; numbers = all_own k }
 
 -- ---- the same decimals
 pub values_same : (dir : Direction) (s : Scenario) (r : Contaminant) {f : Factors} {t : ContaminantNumbers} → FactorsFor s f → NumbersFor r t → number_values dir f t ≡ values_of dir (inputs_of s r)

@@ -29,9 +29,9 @@ number_values dir f t = map (total_of (map (λ (fs : List Formula). zero_of) der
 abbrev pub Terms : Type 0
 Terms = Sides PathwayTerms
 
--- the numbers that a side's terms are worked out from
-pub record Ready (dir : Direction) (f : Factors) (p : Prepared) (t : ContaminantNumbers) : Type 0 where
-  pub prepared : PreparedFor dir f p
+-- the numbers that a side's terms are worked out from, in a medium
+pub record Ready (dir : Direction) (medium : ℕ) (f : Factors) (p : Prepared) (t : ContaminantNumbers) : Type 0 where
+  pub prepared : PreparedFor dir medium f p
   pub factors : ReadyFactors f
   pub numbers : ReadyNumbers t
 

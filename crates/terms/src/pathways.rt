@@ -44,14 +44,15 @@ pub struct PathwayTerms {
 pub type Terms = Sides<PathwayTerms>;
 
 // What the terms are worked out from in a direction: the factors of a scenario and
-// their products, and the numbers of a contaminant.
+// their products, the numbers of a contaminant, and the medium.
 #[derive(Clone, Copy)]
 struct Given {
     f: Factors,
     p: Prepared,
     t: ContaminantNumbers,
+    medium: Medium,
     dir: Direction,
-    ghost ready: { Ready dir f p t } by { one_ready dir f p t },
+    ghost ready: { Ready dir (medium_number medium) f p t } by { one_ready dir (medium_number medium) f p t },
 }
 
 impl Given {
@@ -68,7 +69,7 @@ impl Given {
         requires { Air self.dir self.f self.t b }
         ensures { SideFor self.dir self.f self.t (pathways_of 1 1 Risk) result }
     {
-        let Given { f, p, t, dir } = self;
+        let Given { f, p, t, dir, .. } = self;
         let e = f.exposure;
         let k = f.contact;
         let x = t.toxicity;
@@ -86,7 +87,7 @@ impl Given {
         requires { Air self.dir self.f self.t b }
         ensures { SideFor self.dir self.f self.t (pathways_of 1 1 Hazard) result }
     {
-        let Given { f, p, t, dir } = self;
+        let Given { f, p, t, dir, .. } = self;
         let e = f.exposure;
         let k = f.contact;
         let x = t.toxicity;
@@ -121,7 +122,7 @@ impl Given {
     fn water_chemical_risk(self) -> PathwayTerms
         ensures { SideFor self.dir self.f self.t (pathways_of 2 1 Risk) result }
     {
-        let Given { f, p, t, dir } = self;
+        let Given { f, p, t, dir, .. } = self;
         let e = f.exposure;
         let k = f.contact;
         let x = t.toxicity;
@@ -141,7 +142,7 @@ impl Given {
     fn water_chemical_hazard(self) -> PathwayTerms
         ensures { SideFor self.dir self.f self.t (pathways_of 2 1 Hazard) result }
     {
-        let Given { f, p, t, dir } = self;
+        let Given { f, p, t, dir, .. } = self;
         let e = f.exposure;
         let k = f.contact;
         let x = t.toxicity;
@@ -174,10 +175,10 @@ impl Given {
 
     // Water, tritium, risk: ingestion, inhalation and skin.
     fn water_tritium_risk(self) -> PathwayTerms
-        requires { self.p.medium ≡ Water }
+        requires { self.medium ≡ Water }
         ensures { SideFor self.dir self.f self.t (pathways_of 2 3 Risk) result }
     {
-        let Given { f, p, t, dir } = self;
+        let Given { f, p, t, dir, .. } = self;
         let e = f.exposure;
         let k = f.contact;
         let house = f.house;
@@ -208,24 +209,26 @@ fn no_side() -> PathwayTerms
     }
 }
 
-// The terms of both sides for a class, in the medium that was prepared for.
+// The terms of both sides for a class, in a medium that was prepared for.
 pub fn terms_of(
     f: &Factors,
     p: &Prepared,
     t: &ContaminantNumbers,
+    medium: Medium,
     class: Class,
     dir: Direction,
 ) -> Terms
-    requires { Ready dir f.now p.now t.now }
-    ensures { TermsFor dir f.now t.now (medium_number p.now.medium) (class_number class) result }
+    requires { Ready dir (medium_number medium) f.now p.now t.now }
+    ensures { TermsFor dir f.now t.now (medium_number medium) (class_number class) result }
 {
     let given = Given {
         f: *f,
         p: *p,
         t: *t,
+        medium,
         dir,
     };
-    match (class, p.medium) {
+    match (class, medium) {
         (Class::Chemical, Medium::Soil) => {
             let b = given.air();
             Terms {

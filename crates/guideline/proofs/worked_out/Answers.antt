@@ -1,7 +1,6 @@
 -- `guideline::worked_out`: the terms and the columns stand for those of the definitions.
-use Rattle.std.proofs.Common.{◌≡◌, ℕ, ap, ◌∙◌}
+use Rattle.std.proofs.Common.{◌≡◌, ℕ, refl}
 use Rattle.rounding.specs.declared.Direction.TheVariants.{Up}
-use Rattle.inputs.specs.Kinds.{medium_number}
 use Rattle.inputs.specs.declared.Scenario.{Scenario}
 use Rattle.inputs.specs.declared.Contaminant.{Contaminant}
 use Rattle.factors.specs.declared.numbers.Factors.{Factors}
@@ -41,18 +40,18 @@ pub prepare-p-requires : goal.prepare-p-requires
 prepare-p-requires c = all_own c.scenario_numbers-f.ensures
 
 pub terms_of-side-requires : goal.terms_of-side-requires
-terms_of-side-requires c = ready c.prepare-p.ensures.0 c.scenario_numbers-f.ensures c.contaminant_numbers-t.ensures
+terms_of-side-requires c = ready refl c.prepare-p.ensures c.scenario_numbers-f.ensures c.contaminant_numbers-t.ensures
 
 pub columns_of-columns-requires : goal.columns_of-columns-requires
 columns_of-columns-requires c =
-    wide (terms_worked (ap medium_number c.prepare-p.ensures.1 ∙ c.of-medium.ensures) c.of-class.ensures c.requires
+    wide (terms_worked c.of-medium.ensures c.of-class.ensures c.requires
     c.scenario_numbers-f.ensures c.contaminant_numbers-t.ensures c.terms_of-side.ensures)
 
 pub decimals-requires : goal.decimals-requires
 decimals-requires c =
     column_printable
     (risk_column
-    (columns_filled (ap medium_number c.prepare-p.ensures.1 ∙ c.of-medium.ensures) c.of-class.ensures c.requires
+    (columns_filled c.of-medium.ensures c.of-class.ensures c.requires
     c.scenario_numbers-f.ensures c.contaminant_numbers-t.ensures c.terms_of-side.ensures
     c.columns_of-columns.ensures))
 
@@ -60,7 +59,7 @@ pub decimals-requires-2 : goal.decimals-requires-2
 decimals-requires-2 c =
     column_printable
     (hazard_column
-    (columns_filled (ap medium_number c.prepare-p.ensures.1 ∙ c.of-medium.ensures) c.of-class.ensures c.requires
+    (columns_filled c.of-medium.ensures c.of-class.ensures c.requires
     c.scenario_numbers-f.ensures c.contaminant_numbers-t.ensures c.terms_of-side.ensures
     c.columns_of-columns.ensures))
 
@@ -68,6 +67,6 @@ pub returns : goal.returns
 returns c =
     rw (c.decimals.ensures, c.decimals-2.ensures)
     (both_are
-    (columns_filled (ap medium_number c.prepare-p.ensures.1 ∙ c.of-medium.ensures) c.of-class.ensures c.requires
+    (columns_filled c.of-medium.ensures c.of-class.ensures c.requires
     c.scenario_numbers-f.ensures c.contaminant_numbers-t.ensures c.terms_of-side.ensures
     c.columns_of-columns.ensures))

@@ -1,6 +1,4 @@
 -- `shares::planned`: the numbers of the scenario, and what is prepared from them in both directions.
-use Rattle.std.proofs.Common.{ap, ◌∙◌}
-use Rattle.inputs.specs.Kinds.{medium_number}
 use Rattle.factors.proofs.StandsLaws.{all_own}
 use Rattle.shares.proofs.Plans.{fits_parts}
 use Rattle.shares.proofs.planned.Goals as goal
@@ -23,9 +21,7 @@ invariant_of-result c =
       ready = record {
         fits = c.requires;
         factors = c.scenario_numbers-f.ensures;
-        up = c.prepare.ensures.0;
-        down = c.prepare-2.ensures.0;
-        up_medium = ap medium_number c.prepare.ensures.1 ∙ c.of-kind.ensures;
-        down_medium = ap medium_number c.prepare-2.ensures.1 ∙ c.of-kind.ensures;
+        up = rw (← c.of-kind.ensures) c.prepare.ensures;
+        down = rw (← c.of-kind.ensures) c.prepare-2.ensures;
       };
     }

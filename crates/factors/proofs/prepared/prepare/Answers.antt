@@ -1,5 +1,4 @@
 -- `factors::prepared::prepare`: each product stands for the product of the decimals that its factors stand for.
-use Rattle.std.proofs.Common.{refl}
 use lib.Dec.{lit≤}
 use Rattle.factors.proofs.Places.{EF, BW, AT, IR, IRA, PEF}
 use Rattle.factors.proofs.StandsLaws.{stands_at, stands_mul, stands_mul3, stands_div, stands_middle, stands_operand}
@@ -34,14 +33,12 @@ div-inverse_pef-requires c =
 pub returns : goal.returns
 returns c =
     let dir = c.args.dir in
-    let factor = stands_at c.requires in (
-      record {
-        lifetime = rw (← c.opposite.ensures) (stands_mul3 c.opposite.result (factor BW) (factor AT) days_stands (lit≤ tt) c.product3-lifetime.ensures.0);
-        soil_intake = stands_mul3 dir (factor IR) millionth_stands (factor EF) (lit≤ tt) c.product3-soil_intake.ensures.0;
-        water_intake = stands_mul dir (factor IR) (factor EF) (lit≤ tt) c.mul-water_intake.ensures.0;
-        vapour_intake = stands_mul3 dir (factor IRA) half_stands (factor EF) (lit≤ tt) c.product3-vapour_intake.ensures.0;
-        inverse_pef = stands_div dir unit_stands (factor PEF) (lit≤ tt) c.div-inverse_pef.ensures.0;
-        hours = c.hours-hours.ensures;
-      },
-      refl,
-    )
+    let factor = stands_at c.requires in
+    record {
+      lifetime = rw (← c.opposite.ensures) (stands_mul3 c.opposite.result (factor BW) (factor AT) days_stands (lit≤ tt) c.product3-lifetime.ensures.0);
+      soil_intake = stands_mul3 dir (factor IR) millionth_stands (factor EF) (lit≤ tt) c.product3-soil_intake.ensures.0;
+      water_intake = stands_mul dir (factor IR) (factor EF) (lit≤ tt) c.mul-water_intake.ensures.0;
+      vapour_intake = stands_mul3 dir (factor IRA) half_stands (factor EF) (lit≤ tt) c.product3-vapour_intake.ensures.0;
+      inverse_pef = stands_div dir unit_stands (factor PEF) (lit≤ tt) c.div-inverse_pef.ensures.0;
+      hours = c.hours-hours.ensures;
+    }

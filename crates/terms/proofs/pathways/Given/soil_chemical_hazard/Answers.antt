@@ -1,5 +1,5 @@
 -- `terms::pathways::Given::soil_chemical_hazard`: each term is that of its formula in the table.
-use Rattle.std.proofs.Common.{◌≡◌, [], ◌∷◌}
+use Rattle.std.proofs.Common.{ℕ, ◌≡◌, [], ◌∷◌}
 use lib.Dec.{lit≤}
 use Rattle.rounding.specs.declared.Direction.{Direction}
 use Rattle.rounding.specs.declared.Number.{Number}
@@ -17,7 +17,7 @@ use Rattle.terms.proofs.Products.{three_below, three_fit, quotient_fits}
 use Rattle.terms.proofs.pathways.Given.soil_chemical_hazard.Goals as goal
 
 -- ---- what the code multiplies by B
-module _ {dir : Direction} {f : Factors} {p : Prepared} {t : ContaminantNumbers} (ready : Ready dir f p t) where
+module _ {dir : Direction} {medium : ℕ} {f : Factors} {p : Prepared} {t : ContaminantNumbers} (ready : Ready dir medium f p t) where
   intake : {a b : Number} → Air dir f t b → a ≡ product_of dir (product_of dir f.contact.ira b) f.exposure.ef → Stands 116 a (named dir f t (IRA ∷ B ∷ EF ∷ []))
   intake air e = stands_mul3 dir (input ready IRA) air.stands (input ready EF) (lit≤ tt) e
 

@@ -1,5 +1,5 @@
 -- `terms::pathways::Given::soil_radionuclide_risk`: each term is that of its formula in the table.
-use Rattle.std.proofs.Common.{◌≡◌, [], ◌∷◌}
+use Rattle.std.proofs.Common.{ℕ, ◌≡◌, [], ◌∷◌}
 use lib.Dec.{lit≤}
 use Rattle.rounding.specs.declared.Direction.{Direction}
 use Rattle.rounding.specs.declared.Number.{Number}
@@ -18,7 +18,7 @@ use Rattle.terms.proofs.Products.{two_inputs, three_inputs, two_more, three_fit,
 use Rattle.terms.proofs.pathways.Given.soil_radionuclide_risk.Goals as goal
 
 -- ---- what the code multiplies by 0.000114
-module _ {dir : Direction} {f : Factors} {p : Prepared} {t : ContaminantNumbers} (ready : Ready dir f p t) where
+module _ {dir : Direction} {medium : ℕ} {f : Factors} {p : Prepared} {t : ContaminantNumbers} (ready : Ready dir medium f p t) where
   outdoors4 : {a b : Number} → a ≡ product_of dir (product_of dir t.toxicity.sfx f.contact.et) f.contact.rf →
       b ≡ product_of dir a (num 114000000 2988) → Stands 115 b (named dir f t (SFx ∷ ET ∷ RF ∷ YearsPerHour ∷ []))
   outdoors4 e g = stands_mul dir (three_inputs ready SFx ET RF e) (input ready YearsPerHour) (lit≤ tt) g

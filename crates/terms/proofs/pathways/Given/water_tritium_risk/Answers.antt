@@ -1,10 +1,11 @@
 -- `terms::pathways::Given::water_tritium_risk`: each term is that of its formula in the table.
-use Rattle.std.proofs.Common.{◌≡◌, ◌+◌, [], ◌∷◌}
+use Rattle.std.proofs.Common.{ℕ, ap, ◌≡◌, ◌+◌, [], ◌∷◌}
 use lib.Dec.{lit≤}
 use Rattle.rounding.specs.declared.Direction.{Direction}
 use Rattle.rounding.specs.declared.Number.{Number}
 use Rattle.rounding.specs.Operations.{product_of}
 use Rattle.inputs.specs.declared.kind.Medium.TheVariants.{Water}
+use Rattle.inputs.specs.Kinds.{medium_number}
 use Rattle.formulas.specs.Side.{Risk}
 use Rattle.formulas.specs.Formula.{H, Thousandth, Thousand, EF, ED, IR, IRA, ET, SA, M, K, SFo, SFi, table, pathways_of, derived}
 use Rattle.factors.specs.declared.numbers.Factors.{Factors}
@@ -19,8 +20,8 @@ use Rattle.terms.proofs.Products.{number, two_inputs, three_inputs, two_more, th
 use Rattle.terms.proofs.pathways.Given.water_tritium_risk.Goals as goal
 
 -- ---- what the code multiplies by H
-module _ {dir : Direction} {f : Factors} {p : Prepared} {t : ContaminantNumbers} (ready : Ready dir f p t) where
-  breathed5 : {a b : Number} → p.medium ≡ Water → a ≡ product_of dir (product_of dir (number ready SFi) (number ready IRA)) (number ready M) →
+module _ {dir : Direction} {medium : ℕ} {f : Factors} {p : Prepared} {t : ContaminantNumbers} (ready : Ready dir medium f p t) where
+  breathed5 : {a b : Number} → medium ≡ medium_number Water → a ≡ product_of dir (product_of dir (number ready SFi) (number ready IRA)) (number ready M) →
       b ≡ product_of dir (product_of dir a (number ready Thousandth)) p.hours →
       Stands (three_width + input_width + hours_width + 2) b (named dir f t (SFi ∷ IRA ∷ M ∷ Thousandth ∷ H ∷ []))
   breathed5 water e g = stands_mul3 dir (three_inputs ready SFi IRA M e) (input ready Thousandth) (hours_stands ready water) (lit≤ tt) g
@@ -33,7 +34,7 @@ pub product3-breathed-requires : goal.product3-breathed-requires
 product3-breathed-requires c =
     let ready = c.args.self.ready in
     let three = three_inputs ready SFi IRA M c.product3.ensures.0 in
-    (stands_middle (lit≤ tt) three, (middle ready Thousandth, stands_middle (lit≤ tt) (hours_stands ready c.requires)))
+    (stands_middle (lit≤ tt) three, (middle ready Thousandth, stands_middle (lit≤ tt) (hours_stands ready (ap medium_number c.requires))))
 
 pub product3-requires-2 : goal.product3-requires-2
 product3-requires-2 c = three_fit c.args.self.ready SFo SA K
@@ -54,7 +55,7 @@ product3-requires-3 c =
 pub product3-requires-4 : goal.product3-requires-4
 product3-requires-4 c =
     let ready = c.args.self.ready in
-    two_more_fit ready EF ED (breathed5 ready c.requires c.product3.ensures.0 c.product3-breathed.ensures.0) (lit≤ tt)
+    two_more_fit ready EF ED (breathed5 ready (ap medium_number c.requires) c.product3.ensures.0 c.product3-breathed.ensures.0) (lit≤ tt)
 
 pub product3-requires-5 : goal.product3-requires-5
 product3-requires-5 c =
@@ -66,7 +67,7 @@ unfolding number_values derived pathways_of table
 returns c =
     let ready = c.args.self.ready in
     let swallowed = two_inputs ready SFo IR c.mul.ensures.0 in
-    let breathed = breathed5 ready c.requires c.product3.ensures.0 c.product3-breathed.ensures.0 in
+    let breathed = breathed5 ready (ap medium_number c.requires) c.product3.ensures.0 c.product3-breathed.ensures.0 in
     let wet = two_more ready ET Thousand (three_inputs ready SFo SA K c.product3-2.ensures.0) (lit≤ tt) c.product3-wet.ensures.0 in
     record {
       first = side_term ready 2 3 Risk 0 (lit≤ tt) (two_more ready EF ED swallowed (lit≤ tt) c.product3-3.ensures.0);
