@@ -173,7 +173,7 @@ impl Given {
         }
     }
 
-    // Water, tritium, risk: ingestion, inhalation and skin.
+    // Water, tritium, risk: ingestion as of a radionuclide, inhalation and skin.
     fn water_tritium_risk(self) -> PathwayTerms
         requires { self.medium ≡ Water }
         ensures { SideFor self.dir self.f self.t (pathways_of 2 3 Risk) result }
@@ -191,7 +191,7 @@ impl Given {
         );
         let wet = product3(product3(x.sfo, k.sa, house.k, dir), k.et, THOUSAND, dir);
         PathwayTerms {
-            first: product3(x.sfo.mul(k.ir, dir), e.ef, e.ed, dir),
+            first: self.water_radionuclide_risk().first,
             second: product3(breathed, e.ef, e.ed, dir),
             third: product3(wet, e.ef, e.ed, dir),
         }

@@ -7,7 +7,7 @@ use Rattle.rounding.specs.Operations.{product_of}
 use Rattle.inputs.specs.declared.kind.Medium.TheVariants.{Water}
 use Rattle.inputs.specs.Kinds.{medium_number}
 use Rattle.formulas.specs.Side.{Risk}
-use Rattle.formulas.specs.Formula.{H, Thousandth, Thousand, EF, ED, IR, IRA, ET, SA, M, K, SFo, SFi, table, pathways_of, derived}
+use Rattle.formulas.specs.Formula.{H, Thousandth, Thousand, EF, ED, IRA, ET, SA, M, K, SFo, SFi, table, pathways_of, derived}
 use Rattle.factors.specs.declared.numbers.Factors.{Factors}
 use Rattle.factors.specs.declared.numbers.ContaminantNumbers.{ContaminantNumbers}
 use Rattle.factors.specs.declared.prepared.Prepared.{Prepared}
@@ -15,8 +15,8 @@ use Rattle.factors.specs.Stands.{Stands}
 use Rattle.factors.specs.Widths.{input_width, three_width, hours_width}
 use Rattle.terms.specs.Side.{number_values, Ready}
 use Rattle.factors.proofs.StandsLaws.{stands_middle, stands_mul3}
-use Rattle.terms.proofs.NumberValues.{named, input, middle, range, side_term, hours_stands}
-use Rattle.terms.proofs.Products.{number, two_inputs, three_inputs, two_more, three_fit, two_more_fit}
+use Rattle.terms.proofs.NumberValues.{named, input, middle, side_term, hours_stands}
+use Rattle.terms.proofs.Products.{number, three_inputs, two_more, three_fit, two_more_fit}
 use Rattle.terms.proofs.pathways.Given.water_tritium_risk.Goals as goal
 
 -- ---- what the code multiplies by H
@@ -44,21 +44,13 @@ product3-wet-requires c =
     let ready = c.args.self.ready in
     two_more_fit ready ET Thousand (three_inputs ready SFo SA K c.product3-2.ensures.0) (lit≤ tt)
 
-pub mul-requires : goal.mul-requires
-mul-requires c = let r = range c.args.self.ready in (r SFo, r IR)
-
 pub product3-requires-3 : goal.product3-requires-3
 product3-requires-3 c =
     let ready = c.args.self.ready in
-    two_more_fit ready EF ED (two_inputs ready SFo IR c.mul.ensures.0) (lit≤ tt)
+    two_more_fit ready EF ED (breathed5 ready (ap medium_number c.requires) c.product3.ensures.0 c.product3-breathed.ensures.0) (lit≤ tt)
 
 pub product3-requires-4 : goal.product3-requires-4
 product3-requires-4 c =
-    let ready = c.args.self.ready in
-    two_more_fit ready EF ED (breathed5 ready (ap medium_number c.requires) c.product3.ensures.0 c.product3-breathed.ensures.0) (lit≤ tt)
-
-pub product3-requires-5 : goal.product3-requires-5
-product3-requires-5 c =
     let ready = c.args.self.ready in
     two_more_fit ready EF ED (two_more ready ET Thousand (three_inputs ready SFo SA K c.product3-2.ensures.0) (lit≤ tt) c.product3-wet.ensures.0) (lit≤ tt)
 
@@ -66,11 +58,10 @@ pub returns : goal.returns
 unfolding number_values derived pathways_of table
 returns c =
     let ready = c.args.self.ready in
-    let swallowed = two_inputs ready SFo IR c.mul.ensures.0 in
     let breathed = breathed5 ready (ap medium_number c.requires) c.product3.ensures.0 c.product3-breathed.ensures.0 in
     let wet = two_more ready ET Thousand (three_inputs ready SFo SA K c.product3-2.ensures.0) (lit≤ tt) c.product3-wet.ensures.0 in
     record {
-      first = side_term ready 2 3 Risk 0 (lit≤ tt) (two_more ready EF ED swallowed (lit≤ tt) c.product3-3.ensures.0);
-      second = side_term ready 2 3 Risk 1 (lit≤ tt) (two_more ready EF ED breathed (lit≤ tt) c.product3-4.ensures.0);
-      third = side_term ready 2 3 Risk 2 (lit≤ tt) (two_more ready EF ED wet (lit≤ tt) c.product3-5.ensures.0);
+      first = c.water_radionuclide_risk.ensures.first;
+      second = side_term ready 2 3 Risk 1 (lit≤ tt) (two_more ready EF ED breathed (lit≤ tt) c.product3-3.ensures.0);
+      third = side_term ready 2 3 Risk 2 (lit≤ tt) (two_more ready EF ED wet (lit≤ tt) c.product3-4.ensures.0);
     }
