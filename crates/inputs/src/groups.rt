@@ -13,9 +13,9 @@ pub struct Exposure<T> {
     pub at: T,
 }
 
-// How much meets the body: ingestion, mg of soil or litres of water a day; inhalation, m³ a day (m³ an hour in a list with tritium);
-// particulate emission factor, m³/kg; hours a day, outdoors, with skin in water, or in the shower (tritium); dose reduction factor; skin, cm² (m² in a list
-// with tritium).
+// How much meets the body: ingestion, mg of soil or litres of water a day; inhalation, m³ a day (m³ an hour in a list with
+// tritium); particulate emission factor, m³/kg; hours a day, outdoors, with skin in water, or in the shower (tritium); dose
+// reduction factor; skin, cm² (m² in a list with tritium).
 #[derive(Clone, Copy)]
 pub struct Contact<T> {
     pub ir: T,
