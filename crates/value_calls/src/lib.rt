@@ -103,10 +103,7 @@ fn print_built_in<W: Write>(output: &mut W, b: Result<Scenario, Refused>) -> io:
     ensures { OnOk result (Appends (W.contents output.old) (W.contents output.new) (built_in_text b)) }
 {
     print_answered(output, b)?;
-    match b {
-        Ok(s) => print_factors(output, s),
-        Err(_) => print_factors(output, Scenario::BLANK),
-    }
+    print_factors(output, b.unwrap_or(Scenario::BLANK))
 }
 
 // Call 1, on a header block and a contaminant block: the single guideline.

@@ -1,7 +1,7 @@
 -- `c_structs::header_from`: the form is tested first.
 use Rattle.std.proofs.Common.{length, sym, ◌∙◌}
 use borrow.Author.Tests.{eq-eqb, ne_eqb}
-use Rattle.inputs.specs.Inputs.{scenario_of, exposure_of, contact_of, targets_of, house_of, house_of}
+use Rattle.inputs.specs.Inputs.{scenario_of, exposure_of, contact_of, targets_of, house_of}
 use Rattle.block_rules.specs.Rules.{struct_size}
 use Rattle.gv_rules.specs.Exports.{header_form, header_from}
 use Rattle.c_structs.proofs.header_from.Goals as goal

@@ -1,23 +1,21 @@
 -- `value_calls::print_built_in`: the factors of the scenario that is sent back.
-use Rattle.std.proofs.Common.{List, ℕ, sym, ap}
+use Rattle.std.proofs.Common.{◌≡◌, Ok, Err, refl, ap, ◌∙◌}
 use Rattle.std.specs.Prelude.{Result}
+use Rattle.std.specs.Result.{result_unwrap_or}
 use Rattle.outcome.specs.declared.Refused.{Refused}
 use Rattle.inputs.specs.declared.Scenario.{Scenario}
 use Rattle.inputs.specs.Inputs.{scenario_of, exposure_of, contact_of, targets_of, house_of}
-use Rattle.inputs.specs.BuiltIn.{scenario_sent}
+use Rattle.inputs.specs.BuiltIn.{blank, scenario_sent}
 use Rattle.case_output.proofs.Written.{two_written}
 use Rattle.value_calls.specs.Sent.{factors_text}
 use Rattle.value_calls.proofs.print_built_in.Goals as goal
 
--- the text of the factors of an answer
-abbrev sent : Result Scenario Refused → List ℕ
-sent x = factors_text (scenario_sent x)
+-- what the library hands over in the place of a refusal is what is sent back then
+sent_or_blank : (x : Result Scenario Refused) {d : Scenario} → d ≡ blank → result_unwrap_or x d ≡ scenario_sent x
+sent_or_blank (Ok s) e = refl
+sent_or_blank (Err r) e = e
 
-pub returns-in-Ok : goal.returns-in-Ok
-returns-in-Ok g c =
-    two_written _ _ _ _ c.print_factors.result (ap sent (sym c.in-Ok.is)) c.in_ok-print_answered.ensures c.print_factors.ensures
-
-pub returns-in-Err : goal.returns-in-Err
+pub returns : goal.returns
 unfolding scenario_of exposure_of contact_of targets_of house_of
-returns-in-Err g c =
-    two_written _ _ _ _ c.print_factors-in-Err.result (ap sent (sym c.in-Err.is)) c.in_ok-print_answered.ensures c.print_factors-in-Err.ensures
+returns g c =
+    two_written _ _ _ _ c.print_factors.result (ap factors_text (c.unwrap_or.ensures ∙ sent_or_blank c.args.b refl)) c.in_ok-print_answered.ensures c.print_factors.ensures
