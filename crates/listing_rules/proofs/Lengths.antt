@@ -4,6 +4,8 @@ use mathlib.Core.List.{List, [], ◌++◌}
 use Prim.Native.Nat.{ℕ, zero, suc, ◌≤◌, ◌*◌}
 use native.Mathlib.Omega.{arith}
 use lib.ListN.{length, length-append}
+use Rattle.inputs.specs.declared.kind.Class.TheVariants.{Chemical}
+use Rattle.inputs.specs.Kinds.{class_number}
 use Rattle.sum_rules.specs.declared.Verdict.{Verdict}
 use Rattle.sum_rules.specs.declared.Verdict.TheVariants.{Within, Above, Undecided, NoPathway}
 use Rattle.listing_rules.specs.declared.Side.{Side}
@@ -57,7 +59,7 @@ refusal_most n block = simp length-append (omega (arith, number_most n, number_m
 
 pub lines_most : (class id : ℕ) (risk hazard : SideGuidelines) → length (lines_of class id risk hazard) ≤ 192
 unfolding lines_of
-lines_most class id risk hazard = cases (eqb class 1)
+lines_most class id risk hazard = cases (eqb class (class_number Chemical))
   where
     cases : (b : Bool) → length (line_of id Risk risk ++ cond b (line_of id Hazard hazard) []) ≤ 192
     cases false = simp length-append (omega (arith, line_most id Risk risk))

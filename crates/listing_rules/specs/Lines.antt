@@ -2,6 +2,8 @@
 use Rattle.std.specs.Prelude.{ℕ, List, [], ◌∷◌, ◌++◌, cond, eqb}
 use Rattle.formulas.specs.Side as formulas
 use Rattle.decimal.specs.declared.Decimal.{Decimal}
+use Rattle.inputs.specs.declared.kind.Class.TheVariants.{Chemical}
+use Rattle.inputs.specs.Kinds.{class_number}
 use Rattle.guideline_rules.specs.declared.SideGuidelines.{SideGuidelines}
 use Rattle.sum_rules.specs.declared.Verdict.{Verdict}
 use Rattle.sum_rules.specs.declared.Verdict.TheVariants.{Within, Above, Undecided, NoPathway}
@@ -36,9 +38,9 @@ spaced mark d = 32 ∷ or_else mark d
 unfoldable pub line_of : ℕ → Side → SideGuidelines → List ℕ
 line_of id side g = number_text id ++ (32 ∷ side_word side) ++ spaced 45 g.first ++ spaced 45 g.second ++ spaced 45 g.third ++ spaced 45 g.total ++ (10 ∷ [])
 
--- only a chemical, class 1, has a hazard line
+-- only a chemical has a hazard line
 unfoldable pub lines_of : ℕ → ℕ → SideGuidelines → SideGuidelines → List ℕ
-lines_of class id risk hazard = line_of id Risk risk ++ cond (eqb class 1) (line_of id Hazard hazard) []
+lines_of class id risk hazard = line_of id Risk risk ++ cond (eqb class (class_number Chemical)) (line_of id Hazard hazard) []
 
 -- a zero sum prints 0; with the verdict none, whose sums are zero, it prints "-"
 abbrev pub mark_of : Verdict → ℕ
