@@ -1,6 +1,6 @@
 -- A chemical and tritium never stand in one accepted list, wherever they stand in it and whatever stands between them. Assumes nothing.
 use mathlib.Core.Path.{◌≡◌, refl, sym, ap₂, ◌∙◌}
-use mathlib.Core.Bool.{Bool, true, false, false≢true, cond, ◌&&◌, ◌||◌, or_assoc, or-false}
+use mathlib.Core.Bool.{Bool, true, false, false≢true, cond, ◌&&◌, ◌||◌}
 use mathlib.Core.List.{List, [], ◌∷◌}
 use Prim.Native.Nat.{ℕ, ◌+◌}
 use native.Mathlib.Omega.{arith}
@@ -17,7 +17,8 @@ use Rattle.inputs.specs.declared.Contaminant.{Contaminant}
 use Rattle.inputs.specs.declared.earlier.Earlier.{Earlier}
 use Rattle.inputs.specs.declared.kind.Class.TheVariants.{Chemical, Tritium}
 use Rattle.inputs.specs.Rules.{is_class, contaminant_fits}
-use Rattle.inputs.specs.Earlier.{none_before, before_next, has_class}
+use Rattle.inputs.specs.Earlier.{none_before, before_next, before_rest, has_class}
+use Rattle.inputs.proofs.AllEarlier.{chemical_before, tritium_before}
 use Rattle.guideline_rules.specs.Pathway.{record_refusal}
 use Rattle.guideline_rules.proofs.RecordTests.{passed_unmixed}
 use Rattle.sum_rules.specs.Answer.{Sums}
@@ -44,34 +45,34 @@ still_apart true false false true d e m = absurd (false≢true (sym m))
 still_apart false true true b d e m = absurd (false≢true (sym m))
 still_apart false true false b d e m = refl
 
+-- not both a chemical and tritium
+abbrev Apart : Earlier → Type 0
+Apart e = e.chemical && e.tritium ≡ false
+
 module _ (s : Scenario) (medium : ℕ) where
-  -- from before a record to the end of the list
-  abbrev Apart : Earlier → List Contaminant → Type 0
-  Apart before rs = (before.chemical || has_class Chemical rs) && (before.tritium || has_class Tritium rs) ≡ false
-
-  step_apart : (r : Contaminant) (rs : List Contaminant) (n : ℕ) (before : Earlier) (w : Result Sums Refused) (a b : Bool) → before.chemical && before.tritium ≡ false →
-      ((before_next before r).chemical && (before_next before r).tritium ≡ false → number_of w ≡ 0 → Apart (before_next before r) rs) →
-      number_of (cond a (cond b (refused Order n) (passing (record_refusal s medium before r) n w)) (refused Field n)) ≡ 0 → Apart before (r ∷ rs)
-  step_apart r rs n before w true true d again z = absurd (omega (arith, z))
-  step_apart r rs n before w false b d again z = absurd (omega (arith, z))
-  step_apart r rs n before w true false d again z =
+  step_apart : (r : Contaminant) (n : ℕ) (before after : Earlier) (w : Result Sums Refused) (a b : Bool) → Apart before →
+      (Apart (before_next before r) → number_of w ≡ 0 → Apart after) →
+      number_of (cond a (cond b (refused Order n) (passing (record_refusal s medium before r) n w)) (refused Field n)) ≡ 0 → Apart after
+  step_apart r n before after w true true d again z = absurd (omega (arith, z))
+  step_apart r n before after w false b d again z = absurd (omega (arith, z))
+  step_apart r n before after w true false d again z =
       let p = passing_ok (record_refusal s medium before r) n w z in
-      let m = passed_unmixed s medium before r p.0 in
-      let c = is_class Chemical r in
-      let t = is_class Tritium r in
-      sym (ap₂ ◌&&◌ (or_assoc before.chemical c (has_class Chemical rs)) (or_assoc before.tritium t (has_class Tritium rs))) ∙
-      again (still_apart before.chemical before.tritium c t d (not_two r) m) p.1
+      again (still_apart before.chemical before.tritium (is_class Chemical r) (is_class Tritium r) d (not_two r) (passed_unmixed s medium before r p.0)) p.1
 
-  walk_apart : (rs : List Contaminant) (n : ℕ) (before : Earlier) (risk hazard : Running) → before.chemical && before.tritium ≡ false →
-      number_of (walk s medium rs n before risk hazard) ≡ 0 → Apart before rs
+  -- from before a record to after the last
+  walk_apart : (rs : List Contaminant) (n : ℕ) (before : Earlier) (risk hazard : Running) → Apart before →
+      number_of (walk s medium rs n before risk hazard) ≡ 0 → Apart (before_rest before rs)
   unfolding walk
-  walk_apart [] n before risk hazard d z = ap₂ ◌&&◌ (or-false before.chemical) (or-false before.tritium) ∙ d
+  walk_apart [] n before risk hazard d z = d
   walk_apart (r ∷ rs) n before risk hazard d z =
-      step_apart r rs n before (walk s medium rs (n + 1) (before_next before r) (next s medium Risk risk r) (next s medium Hazard hazard r)) (contaminant_fits r)
-      (leb r.id before.id) d (walk_apart rs (n + 1) (before_next before r) (next s medium Risk risk r) (next s medium Hazard hazard r)) z
+      let e = before_next before r in
+      let x = next s medium Risk risk r in
+      let y = next s medium Hazard hazard r in
+      step_apart r n before (before_rest e rs) (walk s medium rs (n + 1) e x y) (contaminant_fits r) (leb r.id before.id) d (walk_apart rs (n + 1) e x y) z
 
 -- NO ACCEPTED LIST HAS BOTH a chemical and tritium
 pub accepted_apart : (s : Scenario) (medium : ℕ) (rs : List Contaminant) → number_of (sums_of s medium rs) ≡ 0 → has_class Chemical rs && has_class Tritium rs ≡ false
 unfolding sums_of
 accepted_apart s medium rs z =
+    sym (ap₂ ◌&&◌ (chemical_before none_before rs) (tritium_before none_before rs)) ∙
     walk_apart s medium rs 1 none_before start start refl (passing_ok (first_refusal s medium (length rs)) 0 (walk s medium rs 1 none_before start start) z).1
