@@ -1,16 +1,30 @@
-// The media and the classes of contaminants.
+// The media and the classes of contaminants, and their numbers.
 ghost use Rattle.std.specs.Prelude.{◌≡◌};
 ghost use Rattle.inputs.specs.Kinds.{medium_number, class_number};
 ghost use Rattle.inputs.specs.Rules.{OneTo, most_medium, most_class};
 
-// What a header's medium stands for: 1 soil, 2 water.
+// The media: 1 soil, 2 water.
+pub const SOIL: u32 = 1;
+
+pub const MOST_MEDIUM: u32 = 2;
+
+// The classes: 1 chemical, 2 radionuclide, 3 tritium.
+pub const CHEMICAL: u32 = 1;
+
+const RADIONUCLIDE: u32 = 2;
+
+pub const TRITIUM: u32 = 3;
+
+pub const MOST_CLASS: u32 = TRITIUM;
+
+// What a header's medium stands for.
 #[derive(Clone, Copy)]
 pub enum Medium {
     Soil,
     Water,
 }
 
-// What a contaminant's class stands for: 1 chemical, 2 radionuclide, 3 tritium.
+// What a contaminant's class stands for.
 #[derive(Clone, Copy)]
 pub enum Class {
     Chemical,
@@ -24,7 +38,7 @@ impl Medium {
         requires { OneTo most_medium n }
         ensures { medium_number result ≡ n }
     {
-        if n == 1 {
+        if n == SOIL {
             return Medium::Soil;
         }
         Medium::Water
@@ -37,10 +51,10 @@ impl Class {
         requires { OneTo most_class n }
         ensures { class_number result ≡ n }
     {
-        if n == 2 {
+        if n == RADIONUCLIDE {
             return Class::Radionuclide;
         }
-        if n == 3 {
+        if n == TRITIUM {
             return Class::Tritium;
         }
         Class::Chemical

@@ -14,24 +14,13 @@ ghost use Rattle.inputs.specs.Valid.{valid_of, all_valid};
 use decimal::Decimal;
 pub use earlier::Earlier;
 pub use groups::{Contact, Exposure, House, Targets, Toxicity, Transfer};
-pub use kind::{Class, Medium};
+pub use kind::{CHEMICAL, Class, Medium, SOIL};
+use kind::{MOST_CLASS, MOST_MEDIUM, TRITIUM};
 use outcome::{Refusal, Refused};
 use rounding::BIAS;
 
 // A list or a site has 1 to 120 contaminants.
 pub const MOST_CONTAMINANTS: u32 = 120;
-
-// The greatest number of a medium, and of a class.
-const MOST_MEDIUM: u32 = 2;
-
-const MOST_CLASS: u32 = 3;
-
-// The numbers of soil, of chemicals and of tritium.
-const SOIL: u32 = 1;
-
-const CHEMICAL: u32 = 1;
-
-const TRITIUM: u32 = 3;
 
 // No value of a house.
 const NO_HOUSE: House<Decimal> = House {

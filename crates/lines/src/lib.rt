@@ -7,6 +7,7 @@ ghost use Rattle.listing_rules.specs.Lines.{spaced, line_of, lines_of, sum_line,
 
 use decimal::Decimal;
 use guideline_rules::{Guidelines, SideGuidelines};
+use inputs::CHEMICAL;
 use listing_rules::Side;
 use spelling::{mark_of, put_side, put_verdict};
 use sum_rules::SideSums;
@@ -37,14 +38,14 @@ fn put_line(text: &mut Text, id: u32, side: Side, g: SideGuidelines)
     text.put_byte(b'\n');
 }
 
-// The lines of a contaminant. Only a chemical, class 1, has a hazard line.
+// The lines of a contaminant. Only a chemical has a hazard line.
 #[tactic(auto, using(listing_rules::proofs::Lengths::parts), unfolding(listing_rules::specs::Lines::lines_of))]
 pub fn put_lines(text: &mut Text, class: u32, id: u32, g: Guidelines)
     requires { HasRoom text.old 192 }
     ensures { text.new ≡ put text.old (lines_of class id g.risk g.hazard) }
 {
     put_line(text, id, Side::Risk, g.risk);
-    if class != 1 {
+    if class != CHEMICAL {
         return;
     }
     put_line(text, id, Side::Hazard, g.hazard);
