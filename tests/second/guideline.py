@@ -1,7 +1,7 @@
 """The single guideline: one scenario, one medium, one contaminant record (docs/SPECIFICATION.md, "Guidelines, sums, verdicts")."""
 from typing import NamedTuple
 
-from .decimals import DOWN, UP, ZERO, keeps_input_rule
+from .decimals import DOWN, UP, ZERO, keeps_input_rule, value
 from .steps import divide, working_form
 from .terms import (CHEMICAL, CONTAMINANT_VALUES, HAZARD, RADIONUCLIDE, RISK, SCENARIO_FACTORS, SIDES, SOIL, TRITIUM, has_pathway,
                     inputs_of, term_sum, terms_of)
@@ -63,10 +63,25 @@ def last_refusal(scenario, medium, record, earlier):
     return ACCEPTED
 
 
-def side_guidelines(target, terms):
-    """Target divided by each upper term, and by their sum, down. A zero divisor, an absent pathway, gives zero."""
-    divisors = [*terms, term_sum(terms, UP)]
-    return [divide(working_form(target), divisor, DOWN) for divisor in divisors]
+def capped(found, saturation):
+    """The soil inhalation guideline of a chemical: "the lower of the guideline after its rounding down and the saturation, by what
+    these two decimals are worth. It is written in working form, and an absent pathway stays zero." A zero saturation is none."""
+    if found == ZERO or saturation.m == 0:
+        return found
+    return min(found, working_form(saturation), key=value)
+
+
+def side_guidelines(scenario, medium, record, side):
+    """Target divided by each upper term, and by their sum, down. A zero divisor, an absent pathway, gives zero.
+
+    Column 2 of a chemical in soil is capped afterwards; the total is the one of the terms as they are.
+    """
+    terms = terms_of(medium, record["class"], side, inputs_of(scenario, record), UP)
+    target = working_form(scenario[TARGET[side]])
+    guidelines = [divide(target, divisor, DOWN) for divisor in (*terms, term_sum(terms, UP))]
+    if (medium, record["class"]) == (SOIL, CHEMICAL):
+        guidelines[1] = capped(guidelines[1], record["Csat"])
+    return guidelines
 
 
 def guideline(scenario, medium, record):
@@ -78,8 +93,7 @@ def guideline(scenario, medium, record):
     number = last_refusal(scenario, medium, record, [])
     if number != ACCEPTED:
         return refused(number, 1)
-    inputs = inputs_of(scenario, record)
     guidelines = []
     for side in SIDES:
-        guidelines += side_guidelines(scenario[TARGET[side]], terms_of(medium, record["class"], side, inputs, UP))
+        guidelines += side_guidelines(scenario, medium, record, side)
     return Answer(ACCEPTED, 0, tuple(guidelines))

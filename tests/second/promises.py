@@ -1,17 +1,62 @@
-"""The bounds of demand 3, checked exactly on an accepted case. Each function gives the list of what does not hold."""
+"""The bounds of demand 3, and those of each pathway's guideline, checked exactly on an accepted case.
+
+Each function gives the list of what does not hold.
+"""
 from fractions import Fraction
 
 from .decimals import value
 from .guideline import TARGET
 from .sums import ABOVE, NONE, UNDECIDED, WITHIN
-from .terms import SIDES, exact_term_sum, has_pathway, inputs_of
+from .terms import CHEMICAL, SIDES, SOIL, TABLE, exact_term, exact_term_sum, has_pathway, inputs_of
 
 GUIDELINE_DISTANCE = Fraction(2, 10_000_000)
 SUM_DISTANCE = Fraction(2, 1_000_000)
 
 
 def guideline_faults(scenario, medium, record, answer):
-    """Demand 3, first sentence: what the total guideline of each side breaks."""
+    """What the guidelines of each side break: those of the pathways, and the total."""
+    return column_faults(scenario, medium, record, answer) + total_faults(scenario, medium, record, answer)
+
+
+def column_faults(scenario, medium, record, answer):
+    """What the guideline of each pathway breaks.
+
+    It is above zero exactly where the pathway is there; at it the pathway does not pass the target, and stays at most
+    GUIDELINE_DISTANCE below it. Where a saturation caps it, it may stay further below: it is then worth the saturation.
+    """
+    inputs = inputs_of(scenario, record)
+    faults = []
+    for number, side in enumerate(SIDES):
+        target = value(scenario[TARGET[side]])
+        for column, formula in enumerate(TABLE[medium, record["class"], side]):
+            found, term = value(answer.guidelines[4 * number + column]), exact_term(formula, inputs)
+            what = f"{side}: guideline of pathway {column + 1}"
+            if (found > 0) != (term > 0):
+                faults.append(f"{what} above zero though it is absent, or zero though it is there")
+            if found * term > target:
+                faults.append(f"{what} passes the target")
+            if term > 0:
+                faults += distance_faults(what, found, target * (1 - GUIDELINE_DISTANCE) / term, cap_of(medium, record, column))
+    return faults
+
+
+def cap_of(medium, record, column):
+    """What the saturation of a chemical in soil is worth, for its inhalation; None where there is none or it is ignored."""
+    is_capped = (medium, record["class"], column) == (SOIL, CHEMICAL, 1) and record["Csat"].m != 0
+    return value(record["Csat"]) if is_capped else None
+
+
+def distance_faults(what, found, least, cap):
+    """A guideline is at least the least that its distance allows, or, where that is more than the cap, the cap itself."""
+    if cap is not None and found > cap:
+        return [f"{what} above the saturation"]
+    if found < (least if cap is None else min(least, cap)):
+        return [f"{what} too far below the target"]
+    return []
+
+
+def total_faults(scenario, medium, record, answer):
+    """Demand 3, first sentence: what the total guideline of each side breaks. A saturation does not move it."""
     inputs = inputs_of(scenario, record)
     faults = []
     for side, total in zip(SIDES, (answer.guidelines[3], answer.guidelines[7])):

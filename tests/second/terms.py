@@ -11,7 +11,7 @@ SIDES = (RISK, HAZARD)
 
 SCENARIO_FACTORS = ("EF", "ED", "BW", "AT", "IR", "IRA", "PEF", "ET", "RF", "SA", "TR", "THI",
                     "M", "F", "N", "S", "V", "L", "W", "K")
-CONTAMINANT_VALUES = ("SFo", "SFi", "SFx", "RfDo", "RfDi", "VF", "PC", "C")
+CONTAMINANT_VALUES = ("SFo", "SFi", "SFx", "RfDo", "RfDi", "VF", "PC", "C", "Csat")
 
 CONSTANTS = {
     "1": Decimal(1, 0),
