@@ -18,7 +18,8 @@ FIELD_FAULTS = (Decimal(1_000_000_000, 0), Decimal(1, 21), Decimal(1, -21), Deci
 STORED_LISTS = {"missing_values": 12, "missing_factors": 8, "extreme_decimals": 12, "near_target": 30, "near_concentration": 12,
                 "exact_targets": 24, "hard_roundings": 12, "small_shares": 6, "zero_concentrations": 8, "one_side": 6,
                 "two_in_one_block": 24, "faults_in_two_blocks": 24, "id_orders": 10, "plausible_sites": 14, "mixed_classes": 16,
-                "without_house": 10, "tritium_in_soil": 6, "missing_house": 16}
+                "without_house": 10, "tritium_in_soil": 6, "missing_house": 16, "near_saturation": 4, "exact_saturations": 4,
+                "capped_sides": 4, "absent_inhalation": 8, "ignored_saturation": 10}
 MOST_RECORDS = 10
 RANDOM_FAMILIES = (*STORED_LISTS, "one_fault", "many_blocks", "mixed_in_many", "random_sites")
 

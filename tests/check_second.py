@@ -1,4 +1,5 @@
-"""Checks the second calculation itself: the figures that the specification marks, the least and greatest inputs, demand 3 on random lists.
+"""Checks the second calculation itself: the figures that the specification marks, the least and greatest inputs, and on random lists
+demand 3 and the bounds of each pathway's guideline.
 
     python3 tests/check_second.py 300 1        300 lists from seed 1
 
@@ -13,7 +14,7 @@ from guideline_records import HOUSE_FACTORS, Case, random_case, random_classes, 
 from second import steps
 from second.decimals import DOWN, UP, ZERO, Decimal, add, divide, keeps_input_rule, multiply, working_form
 from second.guideline import guideline
-from second.promises import sum_faults
+from second.promises import guideline_faults, sum_faults
 from second.sums import sums
 from second.terms import CONTAMINANT_VALUES, SCENARIO_FACTORS, TABLE, inputs_of, rounded_factor, split, terms_of
 from site_example import tritium_case
@@ -62,6 +63,20 @@ def hours_figures(inputs):
     yield "H up, ET and N zero", rounded_factor("H", {**no_et, "N": ZERO}, UP), ZERO
 
 
+def saturation_figures():
+    """Office worker in soil; a chemical with SFi 0.029, RfDi 0.0017 and VF 19000, without a saturation, with 0.5 and with 50."""
+    record = {"class": 1, "id": 1, "SFi": Decimal(29, -3), "RfDi": Decimal(17, -4), "VF": Decimal(19, 3)}
+    risk, hazard = (937416517, -8), (165052265, -6)
+    capped = {ZERO: (risk, hazard), Decimal(5, -1): ((500000000, -9),) * 2, Decimal(50, 0): (risk, (500000000, -7))}
+    for saturation, columns in capped.items():
+        case = Case(1, OFFICE_WORKER, {**record, "Csat": saturation})
+        guidelines = guideline(case.scenario, 1, case.record).guidelines
+        what = f"saturation {saturation.m}e{saturation.e}"
+        yield f"{what}: inhalation of risk and hazard", (guidelines[1], guidelines[5]), columns
+        yield f"{what}: totals", (guidelines[3], guidelines[7]), (risk, hazard)
+        yield f"{what}: the other columns", {guidelines[column] for column in (0, 2, 4, 6)}, {ZERO}
+
+
 def marked_figures():
     """(name, computed, printed in the specification)"""
     one, two, three, seven = (working_form(Decimal(n, 0)) for n in (1, 2, 3, 7))
@@ -78,6 +93,7 @@ def marked_figures():
     yield "1 + 10^-20 up", add(one, tiny, UP), (100000001, -8)
     yield from office_figures()
     yield from tritium_figures()
+    yield from saturation_figures()
 
 
 def extreme_cases():
@@ -96,10 +112,19 @@ def extreme_cases():
 
 
 def extreme_wrong():
-    """What does not hold of these: every extreme case is accepted, and an e of 1990 on the way is an error."""
+    """What does not hold of these: every extreme case is accepted and keeps its bounds, and an e of 1990 on the way is an error.
+
+    Its saturation is the least or the greatest decimal; without one the inhalation guidelines keep theirs too.
+    """
     for case in extreme_cases():
-        if guideline(case.scenario, case.medium, case.record).refusal or sums(case.scenario, case.medium, [case.record]).refusal:
-            yield f"refused: {case.medium} {case.scenario} {case.record}"
+        what = f"{case.medium} {case.scenario} {case.record}"
+        for record in (case.record, {**case.record, "Csat": ZERO}):
+            answer = guideline(case.scenario, case.medium, record)
+            if answer.refusal:
+                yield f"refused: {what}"
+            yield from (f"{fault}: {what}" for fault in guideline_faults(case.scenario, case.medium, record, answer))
+        if sums(case.scenario, case.medium, [case.record]).refusal:
+            yield f"refused: {what}"
     try:
         yield f"no error: {steps.multiply(Decimal(100_000_000, 991), Decimal(100_000_000, 991), UP)}"
     except AssertionError:
@@ -133,6 +158,15 @@ def random_list(source):
     return first, records
 
 
+def list_faults(case, records, answer):
+    """What an accepted list breaks: its sums and verdicts, and the guidelines of each of its records."""
+    faults = sum_faults(case.scenario, case.medium, records, answer)
+    for record in records:
+        one = guideline(case.scenario, case.medium, record)
+        faults += guideline_faults(case.scenario, case.medium, record, one)
+    return faults
+
+
 def main():
     wrong = 0
     for name, computed, printed in marked_figures():
@@ -150,10 +184,10 @@ def main():
         refusals[answer.refusal] += 1
         if answer.refusal == 0:
             verdicts.update(answer.verdicts)
-            faults = sum_faults(case.scenario, case.medium, records, answer)
+            faults = list_faults(case, records, answer)
             wrong += bool(faults)
             for fault in faults:
-                print(f"demand 3: {fault}: {case.medium} {case.scenario} {records}")
+                print(f"{fault}: {case.medium} {case.scenario} {records}")
     print(f"lists by refusal: {dict(sorted(refusals.items()))}; sides by verdict: {dict(sorted(verdicts.items()))}")
     print(f"{wrong} wrong")
     return 1 if wrong else 0

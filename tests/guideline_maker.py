@@ -3,9 +3,9 @@ import itertools
 import random
 
 import published
-from guideline_records import HARD_NUMBERS, HOUSE_FACTORS, REQUIRED, Case, random_case, with_carry
+from guideline_records import HARD_NUMBERS, HOUSE_FACTORS, REQUIRED, Case, moved, random_case, uncapped, with_carry
 from second.decimals import ZERO, Decimal
-from second.terms import CONTAMINANT_VALUES, SCENARIO_FACTORS, SOIL, TRITIUM, WATER
+from second.terms import CHEMICAL, CONTAMINANT_VALUES, SCENARIO_FACTORS, SOIL, TRITIUM, WATER
 
 SEED = 20261115
 RANDOM_CASES = 60
@@ -33,9 +33,15 @@ def full_case(medium, klass):
     record = {
         "class": klass, "id": 7, "SFo": Decimal(13, -2), "SFi": Decimal(53, -3), "SFx": Decimal(21, -10),
         "RfDo": Decimal(7, -4), "RfDi": Decimal(57, -5), "VF": Decimal(19, 3), "PC": Decimal(22, -3),
-        "C": Decimal(3, 0),
+        "C": Decimal(3, 0), "Csat": Decimal(10, 2),
     }
     return Case(medium, scenario, record)
+
+
+def unit_case(risk, hazard, saturation):
+    """A chemical in soil whose inhalation terms are 1, so that its inhalation guidelines are these targets."""
+    ones = dict.fromkeys(("ED", "BW", "AT", "IRA", "SFi", "RfDi", "VF"), Decimal(1, 0))
+    return full_case(SOIL, CHEMICAL).changed(EF=Decimal(365, 0), PEF=ZERO, TR=risk, THI=hazard, Csat=saturation, **ones)
 
 
 def missing_values():
@@ -61,6 +67,8 @@ def extreme_decimals():
             yield case.changed(**{name: d for name in ("TR", "THI")})
             yield case.changed(**{name: d for name in CONTAMINANT_VALUES})
             yield case.changed(**{name: d for name in SCENARIO_FACTORS if name not in ("TR", "THI")})
+            if (medium, klass) == (SOIL, CHEMICAL):
+                yield case.changed(**{name: d for name in SCENARIO_FACTORS + CONTAMINANT_VALUES if name != "Csat"}, Csat=ZERO)
         for shift in (1, 4):
             decimals = {**case.scenario, **case.record}
             del decimals["class"], decimals["id"]
@@ -80,10 +88,10 @@ def extreme_houses():
 
 
 def hard_roundings(source):
-    """Factors of nine digits, factors whose quotients never end, and products just below a power of ten."""
-    names = SCENARIO_FACTORS + CONTAMINANT_VALUES
+    """Factors of nine digits, factors whose quotients never end, and products just below a power of ten; no saturation hides them."""
+    names = [name for name in SCENARIO_FACTORS + CONTAMINANT_VALUES if name != "Csat"]
     for medium, klass in DEPENDS_ON:
-        case = full_case(medium, klass)
+        case = full_case(medium, klass).changed(Csat=ZERO)
         for m in HARD_NUMBERS[:3]:
             yield case.changed(**{name: Decimal(m, -4) for name in names})
         for _ in range(8):
@@ -112,6 +120,48 @@ def uneven_sums():
     yield house.changed(ET=ZERO, W=Decimal(3, 0))
     yield house.changed(ET=tiny, L=Decimal(7, 0), W=Decimal(3, 0))
     yield house.changed(ET=one, L=Decimal(333_333_333, -9), W=Decimal(999_999_999, -9))
+
+
+def beside_saturation():
+    """A saturation that is an inhalation guideline of either side, or one unit of the last digit beside it, in every form."""
+    case = full_case(SOIL, CHEMICAL)
+    for found, steps in itertools.product(uncapped(case), (-1, 0, 1)):
+        yield case.changed(Csat=moved(found, steps))
+    two, three = Decimal(2, 0), Decimal(3, 0)
+    for steps in (0, 1, 4, 8):
+        yield unit_case(two, three, same_value(two, steps))
+        yield unit_case(three, two, same_value(three, steps))
+    # Units beside a power of ten, and targets and saturations at their ends.
+    for one, below, above in (((1, 0), (999_999_999, -9), (100_000_001, -8)), ((1, 20), (999_999_999, 11), (100_000_001, 12)),
+                              ((1, -11), (999_999_999, -20), (100_000_001, -19)), ((999_999_999, 20), (999_999_998, 20), (1, -20)),
+                              ((1, -20), (2, -20), (999_999_999, 20))):
+        yield from (unit_case(Decimal(*one), Decimal(*one), Decimal(*saturation)) for saturation in (one, below, above))
+
+
+def far_saturation():
+    """A saturation that caps risk alone, hazard alone, both or neither; the least and the greatest; one value in several forms."""
+    two, three = Decimal(2, 0), Decimal(3, 0)
+    for saturation in (Decimal(25, -1), Decimal(1, 0), Decimal(1, -20), Decimal(4, 0), Decimal(999_999_999, 20), ZERO):
+        yield unit_case(two, three, saturation)
+        yield unit_case(three, two, saturation)
+    for d in (Decimal(1, -20), Decimal(999_999_999, -20), Decimal(1, 20), Decimal(999_999_999, 20), Decimal(5, -1), Decimal(50, -2),
+              Decimal(500_000_000, -9), Decimal(20, 0)):
+        yield full_case(SOIL, CHEMICAL).changed(Csat=d)
+
+
+def idle_saturation():
+    """A saturation where inhalation is absent on one side or both, where nothing else is known, and where it is ignored."""
+    for names in (("SFi",), ("RfDi",), ("SFi", "RfDi"), ("IRA",), ("VF", "PEF")):
+        for saturation in (Decimal(1, -3), Decimal(1, 20)):
+            yield full_case(SOIL, CHEMICAL).changed(**dict.fromkeys(names, ZERO), Csat=saturation)
+    for medium, klass in DEPENDS_ON:
+        case = full_case(medium, klass)
+        yield case.changed(**dict.fromkeys(CONTAMINANT_VALUES, ZERO)).changed(Csat=Decimal(7, -1))
+        if (medium, klass) != (SOIL, CHEMICAL):
+            yield case.changed(Csat=Decimal(1, -20))
+            # Ignored, but not unchecked; 12 comes after.
+            yield case.changed(Csat=Decimal(0, 1))
+            yield case.changed(Csat=Decimal(1_000_000_000, 0), L=ZERO)
 
 
 def refused_fields():
@@ -178,6 +228,9 @@ def all_cases():
     cases += extreme_houses()
     cases += hard_roundings(source)
     cases += uneven_sums()
+    cases += beside_saturation()
+    cases += far_saturation()
+    cases += idle_saturation()
     cases += refused_fields()
     cases += without_house()
     cases += two_faults()

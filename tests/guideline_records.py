@@ -1,5 +1,5 @@
 """Cases of the single guideline in the words of the specification, and random ones."""
-from second.decimals import ZERO, Decimal
+from second.decimals import ZERO, Decimal, keeps_input_rule
 from second.guideline import guideline
 from second.terms import CHEMICAL, CONTAMINANT_VALUES, RADIONUCLIDE, SCENARIO_FACTORS, SOIL, TRITIUM, WATER
 
@@ -36,6 +36,18 @@ def answer_of(case):
     return guideline(case.scenario, case.medium, case.record)
 
 
+def moved(d, steps):
+    """The working decimal this many units of its last digit away; the digits may become eight."""
+    m = d.m + steps
+    return Decimal(m, d.e) if m < 10**9 else Decimal(10**8, d.e + 1)
+
+
+def uncapped(case):
+    """The inhalation guidelines of risk and hazard by no saturation."""
+    guidelines = answer_of(case.changed(Csat=ZERO)).guidelines
+    return guidelines[1], guidelines[5]
+
+
 def random_decimal(random):
     """A decimal above zero that keeps the rule of a record."""
     kind = random.randrange(4)
@@ -61,17 +73,27 @@ def just_below_power(random):
 def with_carry(case, random):
     """The case with a product that rounds up to a power of ten.
 
-    In half of them the other factors are 1 and the targets 999,999,999, so that the guideline shows the carry. A product of H
-    shows it where ET adds nothing.
+    In half of them the other factors are 1 and the targets 999,999,999, so that the guideline shows the carry; a saturation would
+    hide it. A product of H shows it where ET adds nothing.
     """
     in_h = case.record["class"] == TRITIUM and random.randrange(2)
     names = random.choice(MULTIPLIED_IN_H if in_h else MULTIPLIED_FIRST)
     if random.randrange(2):
         others = [name for name in SCENARIO_FACTORS + ("VF", "PC") if name not in ("TR", "THI")]
         case = case.changed(**{name: Decimal(1, 0) for name in others})
-        case = case.changed(TR=Decimal(999_999_999, -8), THI=Decimal(999_999_999, -8))
+        case = case.changed(TR=Decimal(999_999_999, -8), THI=Decimal(999_999_999, -8), Csat=ZERO)
     case = case.changed(**dict(zip(names, just_below_power(random))))
     return case.changed(ET=ZERO) if in_h else case
+
+
+def with_saturation_near(case, random):
+    """The case with a saturation that is one of its inhalation guidelines or one unit of the last digit beside it.
+
+    Where there is no such guideline, or the record could not hold that saturation, the case is as it was.
+    """
+    guideline_alone = random.choice(uncapped(case))
+    near = moved(guideline_alone, random.choice((-1, 0, 1)))
+    return case.changed(Csat=near) if guideline_alone != ZERO and keeps_input_rule(near) else case
 
 
 def random_fault(random):
@@ -92,12 +114,15 @@ def random_classes(random):
 
 
 def random_valid_case(random, classes=(CHEMICAL, RADIONUCLIDE, TRITIUM)):
-    """Each value that may be zero is zero in about one case of six. Tritium is in water, and its scenario has a house."""
+    """Each value that may be zero is zero in about one case of six, the saturation in one of two.
+
+    Tritium is in water, and its scenario has a house.
+    """
     klass = random.choice(classes)
     needed = REQUIRED + HOUSE_FACTORS if klass == TRITIUM else REQUIRED
 
     def value(name):
-        return ZERO if name not in needed and random.randrange(6) == 0 else random_decimal(random)
+        return ZERO if name not in needed and random.randrange(2 if name == "Csat" else 6) == 0 else random_decimal(random)
 
     record = {name: value(name) for name in CONTAMINANT_VALUES}
     record.update({"class": klass, "id": random.choice((1, 2**32 - 1, random.randint(1, 2**32 - 1)))})
@@ -105,6 +130,8 @@ def random_valid_case(random, classes=(CHEMICAL, RADIONUCLIDE, TRITIUM)):
     case = Case(medium, {name: value(name) for name in SCENARIO_FACTORS}, record)
     if random.randrange(4) == 0:
         return with_carry(case, random)
+    if (medium, klass) == (SOIL, CHEMICAL) and random.randrange(3) == 0:
+        return with_saturation_near(case, random)
     return case
 
 

@@ -30,18 +30,18 @@ BROKEN_FIELDS = {
 
 # Values that the pathways of a medium and class do not use, or not without others: alone they make no pathway.
 UNNEEDED = {
-    (1, 1): ("SFx", "VF", "PC", "C"),
-    (1, 2): ("RfDo", "RfDi", "VF", "PC", "C"),
-    (2, 1): ("SFx", "VF", "PC", "C"),
-    (2, 2): ("SFi", "SFx", "RfDo", "RfDi", "VF", "PC", "C"),
-    (2, 3): ("SFx", "RfDo", "RfDi", "VF", "PC", "C"),
+    (1, 1): ("SFx", "VF", "PC", "C", "Csat"),
+    (1, 2): ("RfDo", "RfDi", "VF", "PC", "C", "Csat"),
+    (2, 1): ("SFx", "VF", "PC", "C", "Csat"),
+    (2, 2): ("SFi", "SFx", "RfDo", "RfDi", "VF", "PC", "C", "Csat"),
+    (2, 3): ("SFx", "RfDo", "RfDi", "VF", "PC", "C", "Csat"),
 }
 
 # Words that are no medium and no class, whatever their low bytes are.
 NO_MEDIUM = (0, 3, 257, 258, 1 + 2**16, 2 + 2**24, 1 + 2**31, WORD - 1)
 NO_CLASS = (0, 4, 257, 258, 259, 1 + 2**16, 3 + 2**16, 2 + 2**24, 1 + 2**31, 3 + 2**31, WORD - 1)
 # Places of bytes beside the ends of the fields, and further on; those behind a block's last field are unused.
-FIELD_ENDS = (80, 81, 84, 87, 100, 111, 112, 176, 177, 180, 183, 191, 200, 300, 504, LAST_WORD - 1)
+FIELD_ENDS = (88, 89, 92, 95, 100, 111, 112, 176, 177, 180, 183, 191, 200, 300, 504, LAST_WORD - 1)
 
 
 class Fault(NamedTuple):
@@ -124,7 +124,7 @@ def order_faults(previous_id):
 
 def pathway_faults(medium, klass):
     """Refusal 8."""
-    for kept in ((), ("C",), UNNEEDED[medium, klass]):
+    for kept in ((), ("C",), ("Csat",), UNNEEDED[medium, klass]):
         numbers = [number for number, name in enumerate(CONTAMINANT_VALUES) if name not in kept]
         yield Fault(PATHWAY, f"known: {' '.join(kept) or 'nothing'}", zero_fields(numbers))
 

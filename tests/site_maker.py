@@ -9,8 +9,9 @@ name begins with its family. Where the maker knows what has to be sent back the 
 import itertools
 import random
 
-from guideline_records import HARD_NUMBERS, HOUSE_FACTORS, Case, random_classes, random_decimal, random_valid_case, with_carry
+from guideline_records import HARD_NUMBERS, HOUSE_FACTORS, Case, moved, random_classes, random_decimal, random_valid_case, with_carry
 from house_sites import missing_house, mixed_classes, mixed_in_many, tritium_in_soil, without_house
+from saturation_sites import absent_inhalation, capped_sides, exact_saturations, ignored_saturation, near_saturation
 from second.blocks import BLOCK, FIELDS, WORD, with_last_word, word
 from second.decimals import DOWN, UP, ZERO, Decimal, keeps_input_rule, rounded, value
 from second.guideline import CHECK, COUNT, KIND, LENGTH, ORDER, ROOM, TARGET
@@ -20,7 +21,8 @@ from second.terms import (CHEMICAL, CONTAMINANT_VALUES, RADIONUCLIDE, RISK, SCEN
                           has_pathway, inputs_of)
 from site_faults import BROKEN_FIELDS, are_apart, put_word
 from site_naming import any_room, interleaved, lent, refusal, room_for, short_room, shuffled
-from site_parts import CLASSES, KINDS, MEDIA, ONE, Site, full_site, plausible_site, quick_site, some_ids, with_decimals
+from site_parts import (CLASSES, KINDS, MEDIA, ONE, Site, full_site, plausible_site, quick_site, some_ids, with_decimals,
+                        written_shorter)
 
 
 # The refusals that can be made in a block at each place of a short site, in the order of their tests.
@@ -31,7 +33,7 @@ HEADER_END, CONTAMINANT_END = (FIELDS + 8 * len(names) for names in (SCENARIO_FA
 
 def missing_values(source):
     """Every combination of missing toxicity values for each medium and class, alone or after a sound record."""
-    names = [name for name in CONTAMINANT_VALUES if name != "C"]
+    names = [name for name in CONTAMINANT_VALUES if name not in ("C", "Csat")]
     for (medium, klass), known in shuffled(source, itertools.product(KINDS, itertools.product((True, False), repeat=7))):
         site = full_site(source, source.choice((1, 1, 2)), medium, klass)
         site.records[-1].update({name: ZERO for name, is_known in zip(names, known) if not is_known})
@@ -75,19 +77,6 @@ def exact_sum(site, side):
     """The exact sum of the list on a side."""
     parts = (value(r["C"]) * exact_term_sum(site.medium, r["class"], side, inputs_of(site.scenario, r)) for r in site.records)
     return sum(parts)
-
-
-def moved(d, steps):
-    """The working decimal this many units of its last digit away; the digits may become eight."""
-    m = d.m + steps
-    return Decimal(m, d.e) if m < 10**9 else Decimal(10**8, d.e + 1)
-
-
-def written_shorter(source, d):
-    """At times the same value with fewer trailing zeros in m."""
-    while d.m % 10 == 0 and d.m and source.randrange(2):
-        d = Decimal(d.m // 10, d.e + 1)
-    return d
 
 
 def targets_near(site, side):
@@ -177,14 +166,17 @@ def exact_targets(source):
 
 
 def hard_roundings(source):
-    """Factors of nine digits, factors whose quotients never end, and products that round up to a power of ten."""
-    everything = SCENARIO_FACTORS + CONTAMINANT_VALUES
+    """Factors of nine digits, factors whose quotients never end, and products that round up to a power of ten.
+
+    The saturation is no factor: it stays as it is.
+    """
+    values = [name for name in CONTAMINANT_VALUES if name != "Csat"]
     for m, kind in shuffled(source, itertools.product((999_999_999, 100_000_001, 333_333_334), KINDS)):
-        site = with_decimals(full_site(source, 1, *kind), {name: Decimal(m, -4) for name in everything})
+        site = with_decimals(full_site(source, 1, *kind), {name: Decimal(m, -4) for name in (*SCENARIO_FACTORS, *values)})
         yield lent(source, f"hard roundings: {m} throughout; accepted", site.content())
     while True:
         site = full_site(source, source.choice((1, 2, 3)))
-        for factors, names in [(site.scenario, SCENARIO_FACTORS)] + [(r, CONTAMINANT_VALUES) for r in site.records]:
+        for factors, names in [(site.scenario, SCENARIO_FACTORS)] + [(r, values) for r in site.records]:
             factors.update({name: Decimal(source.choice(HARD_NUMBERS), source.randint(-9, 3)) for name in names})
         case = with_carry(Case(site.medium, site.scenario, site.records[0]), source)
         if source.randrange(2):
@@ -479,7 +471,8 @@ FAMILIES = (
     (two_in_one_block, 2), (faults_in_two_blocks, 2), (mixed_classes, 2), (mixed_in_many, 1), (without_house, 1),
     (tritium_in_soil, 1), (short_output, 1), (long_output, 1), (lengths, 1),
     (length_and_faults, 1), (id_orders, 1), (many_blocks, 1), (bit_flips, 1), (kept_totals, 1), (exchanged_blocks, 1),
-    (plausible_sites, 1), (random_sites, 2),
+    (plausible_sites, 1), (random_sites, 2), (near_saturation, 1), (exact_saturations, 1), (capped_sides, 1), (absent_inhalation, 1),
+    (ignored_saturation, 1),
 )
 
 

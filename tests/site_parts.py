@@ -33,11 +33,11 @@ WITHOUT_HOUSE, WITH_HOUSE = SCENARIOS[-2:]
 # The powers of ten between which plausible contaminant values lie, by class.
 PLAUSIBLE = {
     CHEMICAL: {"SFo": (-4, 1), "SFi": (-4, 1), "SFx": (-9, -7), "RfDo": (-5, -1), "RfDi": (-5, -1), "VF": (3, 6),
-               "PC": (-4, -1), "C": (-2, 3)},
+               "PC": (-4, -1), "C": (-2, 3), "Csat": (0, 4)},
     RADIONUCLIDE: {"SFo": (-12, -9), "SFi": (-12, -9), "SFx": (-11, -8), "RfDo": (-5, -1), "RfDi": (-5, -1), "VF": (3, 6),
-                   "PC": (-4, -1), "C": (1, 6)},
+                   "PC": (-4, -1), "C": (1, 6), "Csat": (0, 4)},
     TRITIUM: {"SFo": (-14, -13), "SFi": (-14, -13), "SFx": (-11, -8), "RfDo": (-5, -1), "RfDi": (-5, -1), "VF": (3, 6),
-              "PC": (-4, -1), "C": (0, 5)},
+              "PC": (-4, -1), "C": (0, 5), "Csat": (0, 4)},
 }
 
 
@@ -96,8 +96,10 @@ def some_ids(source, count):
 
 
 def full_record(source, klass, number):
-    """A record in which every value is known and plausible."""
+    """A record in which every value is known and plausible, but for the saturation, which about half of them have."""
     values = {name: plausible(source, *PLAUSIBLE[klass][name]) for name in CONTAMINANT_VALUES}
+    if source.randrange(2):
+        values["Csat"] = ZERO
     return {"class": klass, "id": number, **values}
 
 
@@ -136,6 +138,13 @@ def plausible_site(source, count):
 def quick_site(source, count):
     """A site that is quick to work out: radionuclides in water have one pathway."""
     return full_site(source, count, WATER, RADIONUCLIDE)
+
+
+def written_shorter(source, d):
+    """At times the same value with fewer trailing zeros in m."""
+    while d.m % 10 == 0 and d.m and source.randrange(2):
+        d = Decimal(d.m // 10, d.e + 1)
+    return d
 
 
 def with_decimals(site, decimals):
