@@ -88,7 +88,10 @@ def extreme_houses():
 
 
 def hard_roundings(source):
-    """Factors of nine digits, factors whose quotients never end, and products just below a power of ten; no saturation hides them."""
+    """Factors of nine digits, factors whose quotients never end, and products just below a power of ten.
+
+    There is no saturation, which would hide them.
+    """
     names = [name for name in SCENARIO_FACTORS + CONTAMINANT_VALUES if name != "Csat"]
     for medium, klass in DEPENDS_ON:
         case = full_case(medium, klass).changed(Csat=ZERO)

@@ -32,7 +32,7 @@ NUMBERS = {"missing_values": 30, "missing_factors": 22, "near_target": 24, "near
            "extreme_decimals": 14, "hard_roundings": 12, "zero_concentrations": 10, "plausible_sites": 10, "two_in_one_block": 22,
            "faults_in_two_blocks": 8, "lengths": 44, "small_shares": 4, "many_blocks": 2, "id_orders": 10, "missing_house": 24,
            "mixed_classes": 14, "mixed_in_many": 2, "without_house": 12, "tritium_in_soil": 12, "near_saturation": 8,
-           "exact_saturations": 10, "capped_sides": 8, "absent_inhalation": 10, "ignored_saturation": 10}
+           "exact_saturations": 10, "capped_sides": 8, "absent_inhalation": 10, "ignored_saturation": 16}
 LENGTHS = {"many_blocks": 4608, "mixed_classes": 3072, "mixed_in_many": 4608}
 # Sites that are stored though they are long: the longest that has a right length, and one block more.
 LONG = ("lengths: 61952 bytes, longest; accepted", "lengths: 62464 bytes, cut; refused 1 block 0")

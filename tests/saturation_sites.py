@@ -33,7 +33,7 @@ def near_saturation(source):
 
 
 def exact_saturations(source):
-    """Terms that are 1, so that the targets are the guidelines: saturations below, on, between and above, each in several forms."""
+    """Terms that are 1, so that the targets are the guidelines: saturations below, on, between and above, in several forms."""
     targets = [(Decimal(2, 0), Decimal(3, 0)), (Decimal(3, 0), Decimal(2, 0)), (Decimal(1, 0), Decimal(10, -1)),
                (Decimal(999_999_999, -9), Decimal(100_000_001, -8))]
     saturations = [Decimal(1, -20), Decimal(5, -1), Decimal(999_999_999, -9), Decimal(1, 0), Decimal(100_000_001, -8), Decimal(2, 0),
@@ -87,12 +87,14 @@ def absent_inhalation(source):
 
 
 def ignored_saturation(source):
-    """A saturation of a chemical in water, a radionuclide or tritium moves nothing; one that breaks the rule of a decimal is refused."""
+    """A saturation of a chemical in water, a radionuclide or tritium moves nothing; one that breaks the rule of a decimal is
+    refused."""
     kinds = [kind for kind in KINDS if kind != (SOIL, CHEMICAL)]
     for (medium, klass), is_broken in itertools.cycle(shuffled(source, itertools.product(kinds, (False, True)))):
         site = full_site(source, source.choice((1, 2)), medium, klass)
         place, name = len(site.records), f"ignored saturation: {MEDIA[medium]} {CLASSES[klass]}"
-        site.records[-1]["Csat"] = Decimal(source.choice((1, 999_999_999)), source.choice((-20, -9, 0, 20)))
+        # Mostly so low that it would cap any guideline.
+        site.records[-1]["Csat"] = Decimal(*source.choice(((1, -20), (1, -20), (999_999_999, -20), (999_999_999, 20))))
         if not is_broken:
             yield lent(source, f"{name}; accepted", site.content())
             continue

@@ -9,7 +9,8 @@ name begins with its family. Where the maker knows what has to be sent back the 
 import itertools
 import random
 
-from guideline_records import HARD_NUMBERS, HOUSE_FACTORS, Case, moved, random_classes, random_decimal, random_valid_case, with_carry
+from guideline_records import (HARD_NUMBERS, HOUSE_FACTORS, Case, moved, random_classes, random_decimal, random_valid_case,
+                               with_carry)
 from house_sites import missing_house, mixed_classes, mixed_in_many, tritium_in_soil, without_house
 from saturation_sites import absent_inhalation, capped_sides, exact_saturations, ignored_saturation, near_saturation
 from second.blocks import BLOCK, FIELDS, WORD, with_last_word, word
@@ -471,8 +472,8 @@ FAMILIES = (
     (two_in_one_block, 2), (faults_in_two_blocks, 2), (mixed_classes, 2), (mixed_in_many, 1), (without_house, 1),
     (tritium_in_soil, 1), (short_output, 1), (long_output, 1), (lengths, 1),
     (length_and_faults, 1), (id_orders, 1), (many_blocks, 1), (bit_flips, 1), (kept_totals, 1), (exchanged_blocks, 1),
-    (plausible_sites, 1), (random_sites, 2), (near_saturation, 1), (exact_saturations, 1), (capped_sides, 1), (absent_inhalation, 1),
-    (ignored_saturation, 1),
+    (plausible_sites, 1), (random_sites, 2), (near_saturation, 1), (exact_saturations, 1), (capped_sides, 1),
+    (absent_inhalation, 1), (ignored_saturation, 1),
 )
 
 
