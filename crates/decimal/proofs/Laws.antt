@@ -7,7 +7,7 @@ use Prim.Native.Nat.{ℕ, ◌+◌, ◌*◌, ◌^◌, ◌<◌}
 use native.Mathlib.Nat.{zero-mul, mul-zero}
 use native.Mathlib.Omega.{arith}
 use lib.IntN.{sub_ℕ}
-use lib.Dec.{eqb}
+use lib.Dec.{eqb, leb}
 use borrow.Author.Tests.{eqb-true, eqb-false, eq-eqb, ne_eqb, le-leb}
 use Rattle.rounding.specs.declared.Direction.{Direction}
 use Rattle.rounding.specs.declared.Number.{Number}
@@ -21,7 +21,7 @@ use Rattle.rounding.proofs.Exponents.{worth_same}
 use Rattle.rounding.proofs.NineDigits.{nine_worth, nine_nine, nine_zero}
 use Rattle.decimal.specs.declared.Decimal.{Decimal}
 use Rattle.decimal.specs.Exponent.{raised}
-use Rattle.decimal.specs.Decimal.{zero_of, biased_of, decimal_of, plain_of, value_of, is_operand, are_operands, mul_of, div_of, add_of, working_of}
+use Rattle.decimal.specs.Decimal.{zero_of, biased_of, decimal_of, plain_of, value_of, is_operand, are_operands, mul_of, div_of, add_of, working_of, at_most_of}
 use Rattle.decimal.proofs.Bias.{raised_bounds, raised_is, raise_lower, raised_lower}
 use Rattle.decimal.proofs.OperandFacts.{Operand, operand_is, is_operand_lem, exponent_is}
 
@@ -153,6 +153,11 @@ same_decimal p q f g e = cases (worth_same p q f g e)
     cases : ((p.m ≡ 0) × (q.m ≡ 0)) ⊎ (p ≡ q) → decimal_of p ≡ decimal_of q
     cases (inl z) = decimal_zero p z.0 ∙ sym (decimal_zero q z.1)
     cases (inr s) = ap decimal_of s
+
+-- ---- the comparison of two operands is that of what they are worth
+pub at_most_is : (a b : Decimal) → Operable a → Operable b → at_most_of a b ≡ leb (value_of a) (value_of b)
+unfolding at_most_of
+at_most_is a b f g = rw (f.tested, g.tested)
 
 -- ---- the working form of an input decimal is worth the same, and is an operand
 module _ (d : Decimal) (u : d.m < 1000000000) (h : 0 < raised d.e) where

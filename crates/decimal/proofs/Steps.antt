@@ -61,9 +61,12 @@ summed_contains dir a (b ∷ bs) =
     Contains-append_right (a ∷ []) (summed_steps dir c bs) (summed dir c bs) (summed_contains dir c bs)
 
 -- ---- a decimal that is zero or has nine digits, and what is made of two of them
+pub value_operable : {w : Range} {d : Decimal} → Value w d → Operable d
+value_operable (absent e) = subst Operable (sym e) operable_zero
+value_operable (known s) = sized_operable s
+
 pub value_operand : {w : Range} {d : Decimal} → Value w d → is_operand (biased_of d) ≡ true
-value_operand (absent e) = (subst Operable (sym e) operable_zero).tested
-value_operand (known s) = (sized_operable s).tested
+value_operand v = (value_operable v).tested
 
 pub value_mul : (dir : Direction) {v w : Range} {a b : Decimal} → Covers operand_range (product_range v w) → Value v a → Value w b → Value (product_range v w) (mul_of a b dir)
 value_mul dir {b = b} h (absent e) g = absent (ap (λ (d : Decimal). mul_of d b dir) e ∙ mul_zero_left dir b)

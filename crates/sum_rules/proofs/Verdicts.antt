@@ -16,12 +16,12 @@ use Rattle.rounding.specs.Number.{one}
 use Rattle.rounding.proofs.Distances.{directed_same, parts}
 use Rattle.rounding.proofs.Greatest.{side_scale, side_trans}
 use Rattle.decimal.specs.declared.Decimal.{Decimal}
-use Rattle.decimal.specs.Decimal.{value_of, at_most_of}
+use Rattle.decimal.specs.Decimal.{value_of}
 use Rattle.decimal.specs.Fraction.{Fraction, given, times, plus, AtMost}
 use Rattle.decimal.specs.Exponent.{raise}
 use Rattle.decimal.specs.Lists.{plus_all}
 use Rattle.decimal.specs.Range.{Range}
-use Rattle.decimal.proofs.Laws.{Operable, working_value}
+use Rattle.decimal.proofs.Laws.{Operable, working_value, at_most_is}
 use Rattle.decimal.proofs.Approximation.{Fair, fair_operable}
 use Rattle.decimal.proofs.Approximation.Fair.{none, some}
 use Rattle.outcome.specs.Outcome.{number_of}
@@ -80,11 +80,6 @@ unfolding given
 close dir d q f =
     let h = fair_near f in
     record { side = record { side = h.within.low }; near = rw (← (mul_assoc (value_of d) q.bottom 1000000), mul_right_comm q.top (millionths dir) one) (bound_core dir h) }
-
--- ---- the comparison of two working decimals
-at_most_is : (a b : Decimal) → Operable a → Operable b → at_most_of a b ≡ leb (value_of a) (value_of b)
-unfolding at_most_of
-at_most_is a b f g = rw (f.tested, g.tested)
 
 -- ---- the verdict by its tests
 module _ (target : Decimal) {lower upper : Decimal} {q t : Fraction} (l : Close Down lower q) (u : Close Up upper q) (pos : 0 < q.bottom) (same : t ≡ given target) where
