@@ -56,9 +56,9 @@ pub fn put_contaminant(out: &mut [u8], place: u32, r: Contaminant)
     put_first_words(out, 2, place, r.class, r.id);
     fields::put_all(out, 16, r.toxicity.into());
     fields::put_all(out, 56, r.transfer.into());
-    fields::put(out, 72, r.c);
-    words::clear(out, 80, 428);
-    put_last_word(out, 20);
+    fields::put_all(out, 72, [r.c, r.saturation]);
+    words::clear(out, 88, 420);
+    put_last_word(out, 22);
 }
 
 // Writes a block of kind 3: the guidelines of risk by pathway and in total, then those of hazard.

@@ -17,7 +17,7 @@ header_pieces = Word ∷ Word ∷ Decimals scenario_places ∷ Unused 332 ∷ []
 
 -- kind 2: class, id, the contaminant's decimals
 abbrev pub contaminant_pieces : List Piece
-contaminant_pieces = Word ∷ Word ∷ Decimals contaminant_places ∷ Unused 428 ∷ []
+contaminant_pieces = Word ∷ Word ∷ Decimals contaminant_places ∷ Unused 420 ∷ []
 
 -- kind 3: class, id, eight guidelines
 abbrev pub result_pieces : List Piece

@@ -84,7 +84,7 @@ pub fn header_unused(part: &[u8], at: usize) -> bool
 
 // The contaminant whose class stands at `at`: in the 504 bytes between kind and last word at 4, in a struct of C at 0.
 pub fn get_contaminant(part: &[u8], at: usize) -> Contaminant
-    requires { at + 72 ≤ length part.now }
+    requires { at + 80 ≤ length part.now }
     ensures { result ≡ contaminant_at part.now at }
 {
     Contaminant {
@@ -93,6 +93,7 @@ pub fn get_contaminant(part: &[u8], at: usize) -> Contaminant
         toxicity: fields::read_all(part, at + 8).into(),
         transfer: fields::read_all(part, at + 48).into(),
         c: fields::read(part, at + 64),
+        saturation: fields::read(part, at + 72),
     }
 }
 
@@ -101,7 +102,7 @@ pub fn contaminant_unused(part: &[u8], at: usize) -> bool
     requires { at + struct_size ≤ length part.now }
     ensures { result ≡ contaminant_unused part.now at }
 {
-    fields::unused_zero(part, at + 8, 8) & words::all_zero(part, at + 72, 428)
+    fields::unused_zero(part, at + 8, 9) & words::all_zero(part, at + 80, 420)
 }
 
 // The header of a site of so many blocks: its first 512 bytes.

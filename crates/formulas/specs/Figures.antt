@@ -39,6 +39,7 @@ tritium = record {
   toxicity = record { sfo = dec 72 (negsuc 14); sfi = dec 96 (negsuc 14); sfx = zero_of; rfdo = zero_of; rfdi = zero_of };
   transfer = record { vf = zero_of; pc = zero_of };
   c = dec 500 (pos 0);
+  saturation = zero_of;
 }
 
 abbrev hours : Direction → Scenario → Decimal

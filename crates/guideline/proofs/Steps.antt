@@ -1,5 +1,5 @@
 -- The steps of the single guideline's code, and what their results stand for. Assumes nothing.
-use mathlib.Core.Path.{◌≡◌, subst}
+use mathlib.Core.Path.{◌≡◌, ap₂, subst}
 use mathlib.Core.List.{List}
 use Prim.Native.Nat.{ℕ}
 use lib.Dec.{lit≤}
@@ -23,10 +23,12 @@ use Rattle.formulas.proofs.Sound.{three_pathways}
 use Rattle.factors.proofs.StandsLaws.{risk_target, hazard_target}
 use Rattle.terms.proofs.SameValues.{values_same}
 use Rattle.guideline.specs.declared.Column.{Column}
-use Rattle.guideline.specs.Column.{ColumnFor, column_decimals}
+use Rattle.guideline.specs.Column.{ColumnFor, PrintableColumn, guidelines_from}
 use Rattle.guideline_rules.proofs.Accepted.{Accepted}
+use Rattle.guideline_rules.specs.declared.SideGuidelines.{SideGuidelines}
+use Rattle.guideline_rules.specs.Saturation.{with_saturation}
 use Rattle.guideline_rules.specs.Guideline.{both_sides}
-use Rattle.guideline.proofs.ColumnBounds.{SideStands, ColumnStands, stands_wide, side_wide, column_stands, column_is}
+use Rattle.guideline.proofs.ColumnBounds.{SideStands, ColumnStands, stands_wide, side_wide, column_stands, column_printable, column_is}
 
 -- ---- the terms over the values of the definitions
 pub sides : {dir : Direction} {f : Factors} {t : ContaminantNumbers} {fs : List Formula} {k : PathwayTerms} {vs : List Decimal} →
@@ -71,15 +73,18 @@ module _ {s : Scenario} {medium : ℕ} {r : Contaminant} {f : Factors} {t : Cont
   hazard_three : length (formulas_for s medium r Hazard) ≡ 3
   hazard_three = three_pathways medium r.class Hazard
 
-  pub risk_column : ColumnStands vs (working_target s Risk) (formulas_for s medium r Risk) x
+  risk_column : ColumnStands vs (working_target s Risk) (formulas_for s medium r Risk) x
   risk_column =
       column_stands vs (formulas_for s medium r Risk) k.risk risk_three (risk_terms h.terms) f.targets.tr (working_target s Risk) x
       (risk_target s f h.terms.factors) h.risk
 
-  pub hazard_column : ColumnStands vs (working_target s Hazard) (formulas_for s medium r Hazard) y
+  hazard_column : ColumnStands vs (working_target s Hazard) (formulas_for s medium r Hazard) y
   hazard_column =
       column_stands vs (formulas_for s medium r Hazard) k.hazard hazard_three (hazard_terms h.terms) f.targets.thi (working_target s Hazard) y
       (hazard_target s f h.terms.factors) h.hazard
 
-  pub both_are : record { risk = column_decimals x; hazard = column_decimals y } ≡ both_sides s medium r
-  both_are = rw (column_is risk_column, column_is hazard_column)
+  pub both_printable : PrintableColumn x × PrintableColumn y
+  both_printable = (column_printable risk_column, column_printable hazard_column)
+
+  pub both_are : guidelines_from (record { risk = x; hazard = y }) medium r ≡ both_sides s medium r
+  both_are = ap₂ (λ (a b : SideGuidelines). record { risk = with_saturation medium r a; hazard = with_saturation medium r b }) (column_is risk_column) (column_is hazard_column)

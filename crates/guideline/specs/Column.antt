@@ -1,6 +1,11 @@
 -- What the code keeps of a side's guidelines: numbers, and the equations that make them.
-use Rattle.std.specs.Prelude.{◌≡◌}
-use Rattle.decimal.specs.Decimal.{decimal_of, Printable}
+use Rattle.std.specs.Prelude.{◌≡◌, cond, ℕ}
+use Rattle.decimal.specs.declared.Decimal.{Decimal}
+use Rattle.decimal.specs.Decimal.{decimal_of, Printable, at_most_of}
+use Rattle.inputs.specs.declared.Contaminant.{Contaminant}
+use Rattle.formulas.specs.declared.Sides.{Sides}
+use Rattle.guideline_rules.specs.Answer.{Guidelines}
+use Rattle.guideline_rules.specs.Saturation.{with_saturation}
 use Rattle.terms.specs.Side.{TotalSize}
 use Rattle.guideline_rules.specs.declared.SideGuidelines.{SideGuidelines}
 use Rattle.rounding.specs.declared.Direction.TheVariants.{Down, Up}
@@ -23,5 +28,17 @@ pub record PrintableColumn (c : Column) : Type 0 where
   pub third : Printable c.third
   pub total : Printable c.total
 
+-- inhalation no higher than this
+abbrev pub capped_at : Decimal → SideGuidelines → SideGuidelines
+capped_at most g = record { first = g.first; second = cond (at_most_of g.second most) g.second most; third = g.third; total = g.total }
+
 abbrev pub column_decimals : Column → SideGuidelines
 column_decimals c = record { first = decimal_of c.first; second = decimal_of c.second; third = decimal_of c.third; total = decimal_of c.total }
+
+-- the guidelines of both sides, with the saturation of the contaminant
+abbrev pub Columns : Type 0
+Columns = Sides Column
+
+abbrev pub guidelines_from : Columns → ℕ → Contaminant → Guidelines
+guidelines_from c medium r =
+    record { risk = with_saturation medium r (column_decimals c.risk); hazard = with_saturation medium r (column_decimals c.hazard) }

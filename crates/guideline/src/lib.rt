@@ -6,14 +6,17 @@ ghost use Rattle.rounding.specs.declared.Direction.TheVariants.{Down};
 ghost use Rattle.rounding.specs.Number.{InRange};
 ghost use Rattle.rounding.specs.Operations.{quotient_of};
 ghost use Rattle.terms.specs.Side.{Wide, WideSide};
-ghost use Rattle.guideline.specs.Column.{ColumnFor, PrintableColumn, column_decimals};
+ghost use Rattle.guideline.specs.Column.{ColumnFor, PrintableColumn, column_decimals, capped_at, guidelines_from};
+ghost use Rattle.guideline_rules.specs.Saturation.{saturates};
 ghost use Rattle.guideline_rules.proofs.Accepted.{Accepted};
 ghost use Rattle.guideline_rules.specs.Guideline.{both_sides, guideline_of};
 
+use decimal::Decimal;
 use formulas::Sides;
 use guideline_rules::{Guidelines, SideGuidelines};
 use inputs::{
-    Class, Contaminant, Earlier, Medium, Scenario, Targets, contaminant_fits, scenario_refusal,
+    CHEMICAL, Class, Contaminant, Earlier, Medium, SOIL, Scenario, Targets, contaminant_fits,
+    scenario_refusal,
 };
 use outcome::{Refusal, Refused, located};
 use presence::record_refusal;
@@ -71,7 +74,7 @@ pub fn columns_of(targets: Targets<Number>, t: Terms) -> Columns
 }
 
 // The guidelines of a side as decimals.
-pub fn decimals(c: Column) -> SideGuidelines
+fn side_decimals(c: Column) -> SideGuidelines
     requires { PrintableColumn c }
     ensures { result ≡ column_decimals c }
 {
@@ -83,22 +86,53 @@ pub fn decimals(c: Column) -> SideGuidelines
     }
 }
 
+// Whether the saturation counts: of a chemical in soil, where it is not zero.
+fn saturates(medium: u32, r: Contaminant) -> bool
+    ensures { result ≡ saturates medium r }
+{
+    r.saturation.m != 0 && medium == SOIL && r.class == CHEMICAL
+}
+
+// The guidelines of a side, inhalation no higher than this.
+fn capped(g: SideGuidelines, most: Decimal) -> SideGuidelines
+    ensures { result ≡ capped_at most g }
+{
+    if g.second.at_most(most) {
+        return g;
+    }
+    SideGuidelines { second: most, ..g }
+}
+
+// The guidelines of both sides as decimals, inhalation no higher than the saturation of the contaminant.
+pub fn decimals(c: Columns, medium: u32, r: Contaminant) -> Guidelines
+    requires { PrintableColumn c.risk × PrintableColumn c.hazard }
+    ensures { result ≡ guidelines_from c medium r }
+{
+    let risk = side_decimals(c.risk);
+    let hazard = side_decimals(c.hazard);
+    if !saturates(medium, r) {
+        return Guidelines { risk, hazard };
+    }
+    let most = r.saturation.working();
+    Guidelines {
+        risk: capped(risk, most),
+        hazard: capped(hazard, most),
+    }
+}
+
 // The guidelines for inputs that keep their rules: no exponent on the way leaves -999 to 999 (`guideline_in_range`).
 fn worked_out(s: Scenario, medium: u32, r: Contaminant) -> Guidelines
     requires { Accepted s medium r }
     ensures { result ≡ both_sides s medium r }
 {
-    let medium = Medium::of(medium);
+    let kind = Medium::of(medium);
     let class = Class::of(r.class);
     let f = factors::numbers::scenario_numbers(s);
-    let p = factors::prepared::prepare(&f, medium, Direction::Up);
+    let p = factors::prepared::prepare(&f, kind, Direction::Up);
     let t = factors::numbers::contaminant_numbers(r);
-    let side = terms::pathways::terms_of(&f, &p, &t, medium, class, Direction::Up);
+    let side = terms::pathways::terms_of(&f, &p, &t, kind, class, Direction::Up);
     let columns = columns_of(f.targets, side);
-    Guidelines {
-        risk: decimals(columns.risk),
-        hazard: decimals(columns.hazard),
-    }
+    decimals(columns, medium, r)
 }
 
 // The eight guidelines of a contaminant under a scenario in a medium (1 soil, 2 water), or a refusal: of the scenario

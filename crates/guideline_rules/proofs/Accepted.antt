@@ -44,7 +44,7 @@ constants_valid = refl
 
 pub inputs_valid : (s : Scenario) (r : Contaminant) → all_valid (scenario_decimals s) ≡ true → all_valid (contaminant_decimals r) ≡ true → all_valid (inputs_of s r) ≡ true
 inputs_valid s r h k =
-    let named = (contaminant_parts r k).0 in
+    let named = (contaminant_parts r k).formulas in
     valid_append constants (scenario_decimals s ++ formula_decimals r) constants_valid (valid_append (scenario_decimals s) (formula_decimals r) h named)
 
 pub values_of_lem : (dir : Direction) (s : Scenario) (medium : ℕ) (r : Contaminant) → Accepted s medium r → Represents dir (values_for dir s r) (exact_for s r)

@@ -1,7 +1,6 @@
 -- Every decimal on the way to an accepted single guideline is a working decimal with an e from -999 to 999, on each side. Assumes nothing.
 use mathlib.Core.Path.{◌≡◌}
 use mathlib.Core.Bool.{true}
-use mathlib.Core.List.{◌∷◌}
 use Prim.Native.Nat.{ℕ}
 use Rattle.rounding.specs.declared.Direction.{Direction}
 use Rattle.rounding.specs.declared.Direction.TheVariants.{Up}
@@ -19,7 +18,8 @@ use Rattle.formulas.proofs.InRange.{steps_in_range}
 use Rattle.guideline_rules.specs.Guideline.{side_of, guidelines_of, guideline_of}
 use Rattle.guideline_rules.specs.Steps.{four_of, guideline_steps}
 use Rattle.guideline_rules.proofs.Accepted.{Accepted, inputs_valid}
-use Rattle.guideline_rules.proofs.Promises.{guideline_value, term_bounds, target_bounds, total_fairly, accepted_of}
+use Rattle.guideline_rules.proofs.Saturation.{saturation_value}
+use Rattle.guideline_rules.proofs.Promises.{guideline_value, term_bounds, target_bounds, total_fairly, inhalation, inhalation_value, saturation_valid, accepted_of}
 
 module _ (s : Scenario) (medium : ℕ) (r : Contaminant) (a : Accepted s medium r) where
   -- the terms of inputs that passed their tests
@@ -37,7 +37,7 @@ module _ (s : Scenario) (medium : ℕ) (r : Contaminant) (a : Accepted s medium 
       let target = target_bounds s medium r a side in
       rw (
         value_operand (guideline_value target (term_bounds Up s medium r a side 0)),
-        value_operand (guideline_value target (term_bounds Up s medium r a side 1)),
+        value_operand (inhalation_value s medium r a side),
         value_operand (guideline_value target (term_bounds Up s medium r a side 2)),
         value_operand (guideline_value target (total_fairly s medium r a side)),
       )
@@ -45,8 +45,8 @@ module _ (s : Scenario) (medium : ℕ) (r : Contaminant) (a : Accepted s medium 
   pub worked_in_range : (side : Side) → all_operands (guideline_steps s medium r side) ≡ true
   unfolding guideline_steps
   worked_in_range side =
-      operands_append (steps_for Up s medium r side) (working_target s side ∷ four_of (guidelines_of s medium r side)) (terms_in_range Up side)
-      (rw (target_in_range side) (four_in_range side))
+      operands_append (steps_for Up s medium r side) _ (terms_in_range Up side)
+      (rw (target_in_range side, value_operand (saturation_value r (saturation_valid s medium r a)), value_operand (inhalation s medium r a side)) (four_in_range side))
 
 -- THE SINGLE GUIDELINE
 pub guideline_in_range : (s : Scenario) (medium : ℕ) (r : Contaminant) → number_of (guideline_of s medium r) ≡ 0 → (side : Side) →

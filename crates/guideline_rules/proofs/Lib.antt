@@ -1,5 +1,6 @@
 pub mod Accepted
 pub mod WorkedOut
+pub mod Saturation
 pub mod Promises
 pub mod InRange
 pub mod MarkedFigures

@@ -2,7 +2,7 @@
 use mathlib.Core.Path.{◌≡◌, refl, sym, ap, ◌∙◌}
 use mathlib.Core.Bool.{Bool, true, false, false≢true, cond, not}
 use mathlib.Core.List.{List}
-use Prim.Native.Nat.{ℕ, zero, suc, ◌+◌, ◌*◌, ◌≤◌, ◌<◌}
+use Prim.Native.Nat.{ℕ, zero, suc, ◌+◌, ◌*◌, ◌≤◌, ◌<◌, min}
 use native.Mathlib.Omega.{arith}
 use lib.Dec.{eqb, lit≤}
 use lib.ListN.{get_or}
@@ -28,7 +28,9 @@ use Rattle.outcome.proofs.Tests.{passing_ok}
 use Rattle.inputs.specs.declared.Scenario.{Scenario}
 use Rattle.inputs.specs.declared.Contaminant.{Contaminant}
 use Rattle.inputs.specs.Earlier.{none_before}
+use Rattle.inputs.specs.Valid.{valid_of}
 use Rattle.inputs.specs.Rules.{scenario_refusal, contaminant_fits}
+use Rattle.inputs.proofs.Tests.{contaminant_parts}
 use Rattle.formulas.specs.Limits.{input_range, formula_roundings, formula_range, total_roundings, total_range, guideline_roundings, guideline_range}
 use Rattle.formulas.specs.Side.{Side, Risk, Hazard}
 use Rattle.formulas.specs.Target.{target_of, working_target}
@@ -36,6 +38,7 @@ use Rattle.formulas.specs.Formula.{Formula, none as no_formula}
 use Rattle.formulas.specs.Term.{term_of, total_of, formulas_for, values_for}
 use Rattle.formulas.specs.ExactTerm.{exact_present, exact_term, exact_total, exact_for, any_present}
 use Rattle.decimal.proofs.Value.{Value}
+use Rattle.decimal.proofs.Steps.{value_operable}
 use Rattle.decimal.proofs.Value.Value.{absent, known}
 use Rattle.formulas.proofs.Sound.{table_sound, sound_at_lem, none_sound, three_pathways}
 use Rattle.formulas.proofs.TermBounds.{Represents, term_fair, term_present}
@@ -44,8 +47,10 @@ use Rattle.formulas.specs.Sides.{side_at}
 use Rattle.guideline_rules.specs.Answer.{Guidelines}
 use Rattle.guideline_rules.proofs.Accepted.{Accepted, target_known, values_of_lem, accepted_inputs, scenario_passed}
 use Rattle.guideline_rules.specs.Pathway.{record_refusal}
-use Rattle.guideline_rules.specs.Guideline.{side_of, guidelines_of, both_sides, guidelines_sent, guideline_of}
-use Rattle.guideline_rules.specs.Promise.{pathway_at, Kept, Promised}
+use Rattle.guideline_rules.specs.Guideline.{side_of, calculated_of, guidelines_of, is_capped, both_sides, guidelines_sent, guideline_of}
+use Rattle.guideline_rules.specs.Promise.{pathway_at, Kept, Promised, PathwayPromised}
+use Rattle.guideline_rules.specs.Saturation.{saturates}
+use Rattle.guideline_rules.proofs.Saturation.{as_calculated, capped_value, inhalation_promise, capped_worth}
 use Rattle.guideline_rules.proofs.WorkedOut.{total_bounds, present_total}
 
 -- ---- nineteen roundings are less than 2/10,000,000
@@ -118,18 +123,37 @@ module _ (s : Scenario) (medium : ℕ) (r : Contaminant) (a : Accepted s medium 
   pub target_bounds : (side : Side) → Approx Down 0 input_range (working_target s side) (given (target_of s side))
   target_bounds side = fair_there (target_fair Down s a.scenario side) (given_zero (target_of s side) ∙ target_known a side)
 
+  -- what is calculated of inhalation, and the saturation
+  pub inhalation : (side : Side) → Value guideline_range (calculated_of s medium r side).second
+  unfolding side_of
+  inhalation side = guideline_value (target_bounds side) (term_bounds Up s medium r a side 1)
+
+  pub saturation_valid : valid_of r.saturation ≡ true
+  saturation_valid = (contaminant_parts r a.contaminant).saturation
+
+  pub inhalation_value : (side : Side) → Value guideline_range (guidelines_of s medium r side).second
+  inhalation_value side =
+      capped_value r saturation_valid medium (calculated_of s medium r side).second (value_operable (inhalation side)) (covers refl) (inhalation side)
+
   -- ---- the promise of the total and of each pathway
   total_promise : (side : Side) → Promised (guidelines_of s medium r side).total (given (target_of s side)) (any_present qs (pathways side)) (exact_total qs (pathways side))
   unfolding side_of
   total_promise side = promised (target_bounds side) (any_present qs (pathways side)) (total_fairly side) (total_there side)
 
+  -- of the calculated guideline of any pathway
+  calculated_promise : (side : Side) (n : ℕ) →
+      Promised (div_of (working_target s side) (term_of vs Up (get_or (pathways side) n no_formula)) Down) (given (target_of s side))
+      (exact_present qs (get_or (pathways side) n no_formula)) (exact_term qs (get_or (pathways side) n no_formula))
+  calculated_promise side n = promised (target_bounds side) _ (term_bounds Up s medium r a side n) (term_there side n)
+
   pathway_promise : (side : Side) (n : ℕ) → n < 3 →
-      Promised (pathway_at (guidelines_of s medium r side) n) (given (target_of s side)) (exact_present qs (get_or (pathways side) n no_formula))
-      (exact_term qs (get_or (pathways side) n no_formula))
+      PathwayPromised (pathway_at (guidelines_of s medium r side) n) (given (target_of s side)) (exact_present qs (get_or (pathways side) n no_formula))
+      (exact_term qs (get_or (pathways side) n no_formula)) (is_capped s medium r side n)
   unfolding side_of
-  pathway_promise side zero h = promised (target_bounds side) _ (term_bounds Up s medium r a side 0) (term_there side 0)
-  pathway_promise side (suc zero) h = promised (target_bounds side) _ (term_bounds Up s medium r a side 1) (term_there side 1)
-  pathway_promise side (suc (suc zero)) h = promised (target_bounds side) _ (term_bounds Up s medium r a side 2) (term_there side 2)
+  pathway_promise side zero h = as_calculated false (calculated_promise side 0)
+  pathway_promise side (suc zero) h =
+      inhalation_promise r saturation_valid medium _ (value_operable (inhalation side)) (calculated_promise side 1)
+  pathway_promise side (suc (suc zero)) h = as_calculated false (calculated_promise side 2)
   pathway_promise side (suc (suc (suc n))) h = absurd (omega (arith, h))
 
 -- ---- from an accepted answer back to the conditions
@@ -173,8 +197,17 @@ module _ (s : Scenario) (medium : ℕ) (r : Contaminant) where
       (exact_total (exact_for s r) (formulas_for s medium r side))
   promise h side = rw (side_is h side) (total_promise s medium r (accepted_of h) side)
 
-  -- the same of each pathway's own guideline
+  -- the same of each pathway's own guideline; where the saturation stands in the place of inhalation, it is only at most the target
   pub pathway_promises : number_of answer ≡ 0 → (side : Side) (n : ℕ) → n < 3 →
-      Promised (pathway_at (side_at (guidelines_sent answer) side) n) (given (target_of s side)) (exact_present (exact_for s r) (get_or (formulas_for s medium r side) n no_formula))
-      (exact_term (exact_for s r) (get_or (formulas_for s medium r side) n no_formula))
+      PathwayPromised (pathway_at (side_at (guidelines_sent answer) side) n) (given (target_of s side))
+      (exact_present (exact_for s r) (get_or (formulas_for s medium r side) n no_formula)) (exact_term (exact_for s r) (get_or (formulas_for s medium r side) n no_formula))
+      (is_capped s medium r side n)
   pathway_promises h side n k = rw (side_is h side) (pathway_promise s medium r (accepted_of h) side n k)
+
+  -- inhalation of a chemical in soil with a saturation is worth the lower of the calculated guideline, after its rounding, and the saturation
+  pub inhalation_worth : number_of answer ≡ 0 → saturates medium r ≡ true → (side : Side) →
+      value_of (side_at (guidelines_sent answer) side).second ≡ min (value_of (calculated_of s medium r side).second) (value_of r.saturation)
+  inhalation_worth h k side =
+      let a = accepted_of h in
+      rw (side_is h side)
+      (capped_worth r (saturation_valid s medium r a) medium (calculated_of s medium r side).second (value_operable (inhalation s medium r a side)) k)

@@ -21,6 +21,7 @@ sample c = record {
   toxicity = record { sfo = dec 1 (pos 0); sfi = zero_of; sfx = zero_of; rfdo = dec 2 (negsuc 1); rfdi = zero_of };
   transfer = record { vf = zero_of; pc = zero_of };
   c = c;
+  saturation = zero_of;
 }
 
 abbrev pub chemical : Contaminant
@@ -42,5 +43,29 @@ tritium_figures =
     ((guidelines_sent (guideline_of resident 2 tritium)).risk.total is dec 653359672 (negsuc 5)) ∷
     ((guidelines_sent (guideline_of resident 2 tritium)).hazard.total is zero_of) ∷ []
 
+-- a chemical with SFi 0.029, RfDi 0.0017 and VF 19000, and a saturation
+abbrev solvent : Decimal → Contaminant
+solvent saturation = record {
+  class = 1;
+  id = 1;
+  toxicity = record { sfo = zero_of; sfi = dec 29 (negsuc 2); sfx = zero_of; rfdo = zero_of; rfdi = dec 17 (negsuc 3) };
+  transfer = record { vf = dec 19000 (pos 0); pc = zero_of };
+  c = zero_of;
+  saturation = saturation;
+}
+
+-- its guidelines for inhalation and its totals, of risk and of hazard, in soil
+unfoldable pub saturation_row : Decimal → Decimal → Decimal → List Figure
+saturation_row saturation risk hazard =
+    let g = guidelines_sent (guideline_of office 1 (solvent saturation)) in
+    (g.risk.second is risk) ∷ (g.hazard.second is hazard) ∷ (g.risk.total is dec 937416517 (negsuc 7)) ∷ (g.hazard.total is dec 165052265 (negsuc 5)) ∷ []
+
+-- without a saturation, with 50, which is below the guideline of hazard alone, and with 0.5, which is below both
+unfoldable pub saturation_figures : List Figure
+saturation_figures =
+    saturation_row zero_of (dec 937416517 (negsuc 7)) (dec 165052265 (negsuc 5)) ++
+    (saturation_row (dec 50 (pos 0)) (dec 937416517 (negsuc 7)) (dec 500000000 (negsuc 6)) ++
+    saturation_row (dec 5 (negsuc 0)) (dec 500000000 (negsuc 8)) (dec 500000000 (negsuc 8)))
+
 abbrev pub marked_figures : List Figure
-marked_figures = figures ++ (office_figures ++ tritium_figures)
+marked_figures = figures ++ (office_figures ++ (tritium_figures ++ saturation_figures))

@@ -1,5 +1,5 @@
 -- The single guideline of the specification: its eight decimals, or what is sent back.
-use Rattle.std.specs.Prelude.{cond, List, ℕ, get_or, Result, Ok, Err}
+use Rattle.std.specs.Prelude.{Bool, cond, ◌&&◌, List, ℕ, eqb, get_or, Result, Ok, Err}
 use Rattle.rounding.specs.declared.Direction.TheVariants.{Down, Up}
 use Rattle.decimal.specs.declared.Decimal.{Decimal}
 use Rattle.decimal.specs.Decimal.{zero_of, div_of}
@@ -17,6 +17,7 @@ use Rattle.formulas.specs.Term.{term_of, total_of, formulas_for, values_for}
 use Rattle.guideline_rules.specs.Pathway.{record_refusal}
 use Rattle.guideline_rules.specs.declared.SideGuidelines.{SideGuidelines}
 use Rattle.guideline_rules.specs.Answer.{Guidelines}
+use Rattle.guideline_rules.specs.Saturation.{above_saturation, with_saturation}
 
 -- ---- the guidelines of a side over its target: target divided by the upper term, down; the total by the upper term sum
 unfoldable pub side_of : List Decimal → Decimal → List Formula → SideGuidelines
@@ -36,9 +37,17 @@ guidelines_sent (Ok g) = g
 guidelines_sent (Err r) = record { risk = zero_side; hazard = zero_side }
 
 -- ---- one record in a scenario and a medium
--- a side's guidelines: its target over each term of its formulas, and over their sum
+-- a side's guidelines as calculated: its target over each term of its formulas, and over their sum
+abbrev pub calculated_of : Scenario → ℕ → Contaminant → Side → SideGuidelines
+calculated_of s medium r side = side_of (values_for Up s r) (working_target s side) (formulas_for s medium r side)
+
+-- and inhalation no higher than the saturation
 abbrev pub guidelines_of : Scenario → ℕ → Contaminant → Side → SideGuidelines
-guidelines_of s medium r side = side_of (values_for Up s r) (working_target s side) (formulas_for s medium r side)
+guidelines_of s medium r side = with_saturation medium r (calculated_of s medium r side)
+
+-- the saturation stands in the place of the guideline of pathway 0, 1 or 2, which it does in inhalation alone
+abbrev pub is_capped : Scenario → ℕ → Contaminant → Side → ℕ → Bool
+is_capped s medium r side n = eqb n 1 && above_saturation medium r (calculated_of s medium r side).second
 
 -- those of both sides
 abbrev pub both_sides : Scenario → ℕ → Contaminant → Guidelines

@@ -1,5 +1,6 @@
 pub mod Answer
 pub mod Pathway
+pub mod Saturation
 pub mod Guideline
 pub mod Steps
 pub mod Promise

@@ -1,5 +1,5 @@
 -- The words of demand 3, first sentence.
-use Rattle.std.specs.Prelude.{◌≡◌, Bool, true, not, ℕ, zero, suc, eqb}
+use Rattle.std.specs.Prelude.{◌≡◌, Bool, true, false, not, ℕ, zero, suc, eqb}
 use Rattle.decimal.specs.declared.Decimal.{Decimal}
 use Rattle.decimal.specs.Fraction.{Fraction, given, times, AtMost}
 use Rattle.guideline_rules.specs.declared.SideGuidelines.{SideGuidelines}
@@ -23,3 +23,9 @@ pub record Kept (g : Decimal) (target exact : Fraction) : Type 0 where
 pub record Promised (g : Decimal) (target : Fraction) (present : Bool) (exact : Fraction) : Type 0 where
   pub when : not (eqb g.m 0) ≡ present
   pub kept : present ≡ true → Kept g target exact
+
+-- the same of the guideline of one pathway, but where the saturation stands in its place: that is at most the target, and no more is said of it
+pub record PathwayPromised (g : Decimal) (target : Fraction) (present : Bool) (exact : Fraction) (capped : Bool) : Type 0 where
+  pub when : not (eqb g.m 0) ≡ present
+  pub most : present ≡ true → AtMost (times (given g) exact) target
+  pub kept : capped ≡ false → present ≡ true → Kept g target exact

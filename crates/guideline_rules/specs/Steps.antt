@@ -1,18 +1,24 @@
--- Every decimal on the way to the single guideline, on a side: those of the upper terms and their sum, the target, the four guidelines.
+-- Every decimal on the way to the single guideline, on a side: those of the upper terms and their sum, the target, the saturation, the calculated
+-- guideline of inhalation, the four guidelines.
 use Rattle.std.specs.Prelude.{List, [], ◌∷◌, ◌++◌, ℕ}
 use Rattle.rounding.specs.declared.Direction.TheVariants.{Up}
 use Rattle.decimal.specs.declared.Decimal.{Decimal}
+use Rattle.decimal.specs.Decimal.{working_of}
 use Rattle.inputs.specs.declared.Scenario.{Scenario}
 use Rattle.inputs.specs.declared.Contaminant.{Contaminant}
 use Rattle.formulas.specs.Side.{Side}
 use Rattle.formulas.specs.Target.{working_target}
 use Rattle.formulas.specs.Steps.{steps_for}
 use Rattle.guideline_rules.specs.declared.SideGuidelines.{SideGuidelines}
-use Rattle.guideline_rules.specs.Guideline.{guidelines_of}
+use Rattle.guideline_rules.specs.Guideline.{calculated_of, guidelines_of}
 
 -- the guidelines of a side as a list
 abbrev pub four_of : SideGuidelines → List Decimal
 four_of g = g.first ∷ (g.second ∷ (g.third ∷ (g.total ∷ [])))
 
+-- what comes before them, behind the terms
+abbrev pub before_four : Scenario → ℕ → Contaminant → Side → List Decimal
+before_four s medium r side = working_target s side ∷ (working_of r.saturation ∷ ((calculated_of s medium r side).second ∷ []))
+
 unfoldable pub guideline_steps : Scenario → ℕ → Contaminant → Side → List Decimal
-guideline_steps s medium r side = steps_for Up s medium r side ++ working_target s side ∷ four_of (guidelines_of s medium r side)
+guideline_steps s medium r side = steps_for Up s medium r side ++ (before_four s medium r side ++ four_of (guidelines_of s medium r side))

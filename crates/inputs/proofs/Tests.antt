@@ -49,9 +49,16 @@ valid_join (d ∷ ds) y = ap (λ (b : Bool). valid_of d && b) (valid_join ds y) 
 pub valid_parts : (x y : List Decimal) → all_valid (x ++ y) ≡ true → (all_valid x ≡ true) × (all_valid y ≡ true)
 valid_parts x y h = and_split (all_valid x) (all_valid y) (sym (valid_join x y) ∙ h)
 
--- what the formulas name of a contaminant, and C
-pub contaminant_parts : (r : Contaminant) → all_valid (contaminant_decimals r) ≡ true → (all_valid (formula_decimals r) ≡ true) × (valid_of r.c ≡ true)
-contaminant_parts r h = let p = valid_parts (formula_decimals r) (other_decimals r) h in (p.0, (and_split (valid_of r.c) _ p.1).0)
+-- what the formulas name of a contaminant, C, and the saturation
+pub record ValidParts (r : Contaminant) : Type 0 where
+  pub formulas : all_valid (formula_decimals r) ≡ true
+  pub c : valid_of r.c ≡ true
+  pub saturation : valid_of r.saturation ≡ true
+
+pub contaminant_parts : (r : Contaminant) → all_valid (contaminant_decimals r) ≡ true → ValidParts r
+contaminant_parts r h =
+    let p = valid_parts (formula_decimals r) (other_decimals r) h in
+    record { formulas = p.0; c = valid_at (other_decimals r) p.1 0; saturation = valid_at (other_decimals r) p.1 1 }
 
 -- the targets of a scenario
 pub target_parts : (s : Scenario) → all_valid (scenario_decimals s) ≡ true → (valid_of s.targets.tr ≡ true) × (valid_of s.targets.thi ≡ true)

@@ -39,7 +39,7 @@ formula_decimals r = toxicity_decimals r.toxicity ++ transfer_decimals r.transfe
 
 -- what no formula names
 abbrev pub other_decimals : Contaminant → List Decimal
-other_decimals r = r.c ∷ []
+other_decimals r = r.c ∷ (r.saturation ∷ [])
 
 abbrev pub contaminant_decimals : Contaminant → List Decimal
 contaminant_decimals r = formula_decimals r ++ other_decimals r
@@ -49,7 +49,7 @@ abbrev pub scenario_places : ℕ
 scenario_places = 20
 
 abbrev pub contaminant_places : ℕ
-contaminant_places = 8
+contaminant_places = 9
 
 -- ---- out of such a list
 abbrev nth : List Decimal → ℕ → Decimal
@@ -77,4 +77,4 @@ unfoldable pub scenario_of : List Decimal → Scenario
 scenario_of l = record { exposure = exposure_of l; contact = contact_of (drop 4 l); targets = targets_of (drop 10 l); house = house_of (drop 12 l) }
 
 unfoldable pub contaminant_of : ℕ → ℕ → List Decimal → Contaminant
-contaminant_of class id l = record { class = class; id = id; toxicity = toxicity_of l; transfer = transfer_of (drop 5 l); c = nth l 7 }
+contaminant_of class id l = record { class = class; id = id; toxicity = toxicity_of l; transfer = transfer_of (drop 5 l); c = nth l 7; saturation = nth l 8 }

@@ -48,7 +48,8 @@ pub struct Scenario {
     pub house: House<Decimal>,
 }
 
-// A contaminant: its class (1 chemical, 2 radionuclide, 3 tritium), its id, and its measured concentration C.
+// A contaminant: its class (1 chemical, 2 radionuclide, 3 tritium), its id, its measured concentration C, and the saturation of
+// soil with it, mg/kg.
 #[derive(Clone, Copy)]
 pub struct Contaminant {
     pub class: u32,
@@ -56,6 +57,7 @@ pub struct Contaminant {
     pub toxicity: Toxicity<Decimal>,
     pub transfer: Transfer<Decimal>,
     pub c: Decimal,
+    pub saturation: Decimal,
 }
 
 impl Scenario {
@@ -182,6 +184,7 @@ impl Contaminant {
             pc: Decimal::ZERO,
         },
         c: Decimal::ZERO,
+        saturation: Decimal::ZERO,
     };
 }
 
@@ -227,7 +230,8 @@ pub fn valid_contaminant(r: Contaminant) -> bool
     let toxicity = all_valid(r.toxicity.into());
     let transfer = all_valid(r.transfer.into());
     let c = valid(r.c);
-    toxicity & transfer & c
+    let saturation = valid(r.saturation);
+    toxicity & transfer & c & saturation
 }
 
 // Whether a number is from 1 to so many: a medium, or a class.

@@ -10,16 +10,14 @@ use Rattle.inputs.specs.declared.Contaminant.{Contaminant}
 use Rattle.block_rules.specs.Reading.{contaminant_at}
 use Rattle.blocks.proofs.Answers.{contaminant_here}
 use Rattle.guideline_rules.specs.Answer.{Guidelines}
-use Rattle.guideline_rules.specs.declared.SideGuidelines.{SideGuidelines}
 use Rattle.block_rules.specs.Layouts.{result_block}
 use Rattle.terms.specs.Side.{Wide, WideSide}
 use Rattle.guideline.specs.declared.Column.{Column}
-use Rattle.guideline.specs.Column.{ColumnFor, PrintableColumn, column_decimals}
+use Rattle.guideline.specs.Column.{ColumnFor, PrintableColumn, guidelines_from}
 use Rattle.inputs.specs.Rules.{scenario_refusal, most_contaminants, lacks_factor}
 use Rattle.factors.specs.Widths.{share_width}
 use Rattle.guideline_rules.specs.Guideline.{guidelines_sent, guideline_of}
-use Rattle.guideline.proofs.ColumnBounds.{column_printable}
-use Rattle.guideline.proofs.Steps.{TermsOf, ColumnsOf, wide, risk_column, hazard_column, both_are}
+use Rattle.guideline.proofs.Steps.{TermsOf, ColumnsOf, wide, both_printable, both_are}
 use Rattle.shares.specs.declared.plan.Plan.{Plan}
 use Rattle.shares.specs.declared.Worked.{Worked}
 use Rattle.shares.specs.Runs.{Runs}
@@ -43,10 +41,10 @@ pub read_ok : {s : Scenario} {medium : ℕ} (site : List ℕ) (place : ℕ) {r :
 read_ok {s} {medium} site place {r} ok e = subst (RecordOk s medium) (sym (read_is site place r e)) ok
 
 -- the result block of a place, from its guidelines
-pub block_is : (s : Scenario) (medium : ℕ) (site : List ℕ) (place : ℕ) (r : Contaminant) (a b : SideGuidelines) → r ≡ record_at site place →
-    guideline_of s medium r ≡ Ok (record { risk = a; hazard = b }) → result_block place r.class r.id a b ≡ result_at s medium site place
+pub block_is : (s : Scenario) (medium : ℕ) (site : List ℕ) (place : ℕ) (r : Contaminant) (a : Guidelines) → r ≡ record_at site place →
+    guideline_of s medium r ≡ Ok a → result_block place r.class r.id a.risk a.hazard ≡ result_at s medium site place
 unfolding result_at
-block_is s medium site place r a b e g =
+block_is s medium site place r a e g =
     ap (λ (z : Result Guidelines Refused). result_block place r.class r.id (guidelines_sent z).risk (guidelines_sent z).hazard) (sym g) ∙
     ap (λ (q : Contaminant). result_block place q.class q.id (guidelines_sent (guideline_of s medium q)).risk (guidelines_sent (guideline_of s medium q)).hazard) e
 
@@ -64,14 +62,11 @@ module _ {p : Plan} {r : Contaminant} {w : Worked} (known : lacks_factor p.scena
     columns_of : ColumnsOf p.scenario p.medium r p.factors k.numbers w.above x y
     columns_of = record { terms = terms_of_lem; risk = u; hazard = v }
 
-    pub risk_printable : PrintableColumn x
-    risk_printable = column_printable (risk_column columns_of)
-
-    pub hazard_printable : PrintableColumn y
-    hazard_printable = column_printable (hazard_column columns_of)
+    pub block_printable : PrintableColumn x × PrintableColumn y
+    block_printable = both_printable columns_of
 
     -- the decimals of the block are those of the single guideline
-    pub guideline_is : guideline_of p.scenario p.medium r ≡ Ok (record { risk = column_decimals x; hazard = column_decimals y })
+    pub guideline_is : guideline_of p.scenario p.medium r ≡ Ok (guidelines_from (record { risk = x; hazard = y }) p.medium r)
     unfolding guideline_of scenario_refusal
     guideline_is = rw (p.ready.fits, known, ok.fits, ok.passed) (ap Ok (sym (both_are columns_of)))
 

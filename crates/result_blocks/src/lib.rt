@@ -10,7 +10,6 @@ ghost use Rattle.result_blocks.specs.Writing.{Writing, WritingOne, AllAdded, blo
 ghost use Rattle.sums.specs.State.{NextRuns};
 
 use block_rules::BLOCK_SIZE;
-use guideline_rules::Guidelines;
 use shares::{Plan, Runs};
 use sum_rules::Sums;
 
@@ -24,11 +23,10 @@ fn put_block(site: &[u8], p: &Plan, place: u32, runs: &mut Runs, out: &mut [u8])
     let to = at + 508;
     let r = blocks::get_contaminant(&site[from..to], 4);
     let w = p.work(r);
-    let g = guideline::columns_of(p.factors.targets, w.above);
-    let risk = guideline::decimals(g.risk);
-    let hazard = guideline::decimals(g.hazard);
-    block_output::put_result(out, place, r.class, r.id, Guidelines { risk, hazard });
-    shares::add_shares(runs, w, g.risk.sum, g.hazard.sum);
+    let c = guideline::columns_of(p.factors.targets, w.above);
+    let g = guideline::decimals(c, p.medium, r);
+    block_output::put_result(out, place, r.class, r.id, g);
+    shares::add_shares(runs, w, c.risk.sum, c.hazard.sum);
 }
 
 // The result blocks of all contaminants, each in its own part of the output, and their sums.

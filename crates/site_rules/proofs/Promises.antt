@@ -17,8 +17,8 @@ use Rattle.formulas.specs.Target.{target_of}
 use Rattle.formulas.specs.Formula.{none}
 use Rattle.formulas.specs.Term.{formulas_for}
 use Rattle.formulas.specs.ExactTerm.{exact_present, exact_term, exact_total, exact_for, any_present}
-use Rattle.guideline_rules.specs.Guideline.{guidelines_sent, guideline_of}
-use Rattle.guideline_rules.specs.Promise.{pathway_at, Promised}
+use Rattle.guideline_rules.specs.Guideline.{is_capped, guidelines_sent, guideline_of}
+use Rattle.guideline_rules.specs.Promise.{pathway_at, Promised, PathwayPromised}
 use Rattle.formulas.specs.Sides.{side_at}
 use Rattle.guideline_rules.proofs.Promises.{promise, pathway_promises}
 use Rattle.sum_rules.specs.Answer.{Sums}
@@ -90,8 +90,8 @@ module _ (site : List ℕ) (out : ℕ) (z : number_of (site_answer site out) ≡
         (any_present (exact_for s (record_at site k)) (formulas_for s medium (record_at site k) side)) (exact_total (exact_for s (record_at site k)) (formulas_for s medium (record_at site k) side))
     site_promise side = promise s medium (record_at site k) site_guidelines side
 
-    -- the same of each pathway's own guideline
-    pub site_pathway_promises : (side : Side) (n : ℕ) → n < 3 → Promised (pathway_at (side_at (guidelines_sent (guideline_of s medium (record_at site k))) side) n) (given (target_of s side))
+    -- the same of each pathway's own guideline, but for the lower bound where the saturation stands in its place
+    pub site_pathway_promises : (side : Side) (n : ℕ) → n < 3 → PathwayPromised (pathway_at (side_at (guidelines_sent (guideline_of s medium (record_at site k))) side) n) (given (target_of s side))
         (exact_present (exact_for s (record_at site k)) (get_or (formulas_for s medium (record_at site k) side) n none))
-        (exact_term (exact_for s (record_at site k)) (get_or (formulas_for s medium (record_at site k) side) n none))
+        (exact_term (exact_for s (record_at site k)) (get_or (formulas_for s medium (record_at site k) side) n none)) (is_capped s medium (record_at site k) side n)
     site_pathway_promises side n m = pathway_promises s medium (record_at site k) site_guidelines side n m

@@ -2,7 +2,7 @@
 -- decimals of the single guideline for the record at place k, and every e read is from -999 to 999. Assumes nothing.
 use mathlib.Core.Path.{◌≡◌, sym, subst, ◌∙◌}
 use mathlib.Core.Bool.{true}
-use mathlib.Core.List.{List, [], ◌∷◌}
+use mathlib.Core.List.{List, ◌++◌}
 use Prim.Native.Nat.{ℕ, ◌≤◌}
 use native.Mathlib.Omega.{arith}
 use lib.ListN.{length, get_or}
@@ -38,9 +38,8 @@ use Rattle.site_rules.proofs.SameSums.{site_sums}
 use Rattle.site_rules.proofs.Promises.{site_guidelines}
 use Rattle.site_rules.proofs.OutputBlocks.{summary_block_lem, result_block_lem}
 use Rattle.decimal.proofs.Steps.{operands_append, operands_behind, operand_at, operand_among}
-use Rattle.formulas.specs.Target.{working_target}
 use Rattle.formulas.specs.Steps.{steps_for}
-use Rattle.guideline_rules.specs.Steps.{four_of, guideline_steps}
+use Rattle.guideline_rules.specs.Steps.{before_four, four_of, guideline_steps}
 use Rattle.guideline_rules.proofs.InRange.{guideline_in_range}
 use Rattle.sum_rules.specs.Steps.{reported_sum, list_steps}
 use Rattle.sum_rules.proofs.InRange.{list_in_range}
@@ -58,8 +57,8 @@ four_operands : (s : Scenario) (medium : ℕ) (r : Contaminant) (side : Side) �
     all_operands (four_of (guidelines_of s medium r side)) ≡ true
 unfolding guideline_steps
 four_operands s medium r side h =
-    operands_behind (working_target s side ∷ []) (four_of (guidelines_of s medium r side))
-    (operands_behind (steps_for Up s medium r side) (working_target s side ∷ four_of (guidelines_of s medium r side)) h)
+    operands_behind (before_four s medium r side) (four_of (guidelines_of s medium r side))
+    (operands_behind (steps_for Up s medium r side) (before_four s medium r side ++ four_of (guidelines_of s medium r side)) h)
 
 -- ---- an accepted site
 module _ (site out : List ℕ) (z : number_of (site_answer site (length out)) ≡ 0) where

@@ -47,7 +47,7 @@ module _ (s : Scenario) (medium : ℕ) (side : Side) (dir : Direction) where
 
   pub concentration : (r : Contaminant) → Accepted s medium r → Fair dir 0 input_range (used_of r dir) (exact_used r)
   unfolding used_of exact_used
-  concentration r a = valid_fair dir r.c (contaminant_parts r a.contaminant).1
+  concentration r a = valid_fair dir r.c (contaminant_parts r a.contaminant).c
 
   pub share_bounds : (r : Contaminant) → Accepted s medium r → Fair dir share_roundings share_range (share_of s medium r dir side) (exact_share s medium side r)
   unfolding share_of exact_share

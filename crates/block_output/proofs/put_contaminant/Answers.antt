@@ -1,11 +1,10 @@
 -- `block_output::put_contaminant`: the steps one behind the other make the block.
-use Rattle.std.proofs.Common.{ℕ, [], ◌∷◌, ◌++◌, refl, ap, ◌∙◌}
+use Rattle.std.proofs.Common.{ℕ, ◌++◌, refl}
 use lib.ListN.{length-replicate}
-use Rattle.words.specs.Bytes.{placed}
 use Rattle.words.proofs.Written.{wrote_none, wrote_next}
 use Rattle.fields.specs.Fields.{field_bytes}
-use Rattle.fields.proofs.ReadBack.{field_bytes_length, one_field}
-use Rattle.inputs.specs.Inputs.{toxicity_decimals, transfer_decimals, contaminant_decimals}
+use Rattle.fields.proofs.ReadBack.{field_bytes_length}
+use Rattle.inputs.specs.Inputs.{toxicity_decimals, transfer_decimals, other_decimals, contaminant_decimals}
 use Rattle.block_rules.specs.Pieces.{contaminant_pieces, unused_bytes}
 use Rattle.block_rules.specs.Layouts.{first_words, body_of, unused_of, contaminant_block}
 use Rattle.block_rules.proofs.Lengths.{first_words_length}
@@ -24,7 +23,6 @@ returns c =
     let w₁ = wrote_next c.put_first_words.new.out first 16 (wrote_none c.args.out.now) c.put_first_words.ensures (first_words_length 2 p r.class r.id) in
     let w₂ = wrote_next c.put_all.new.out (field_bytes x) _ w₁ (wrote_group _ _ c.put_all.ensures c.into.ensures) (field_bytes_length x) in
     let w₃ = wrote_fields first x y _ c.put_all-2.new.out w₂ (wrote_group _ _ c.put_all-2.ensures c.into-2.ensures) refl in
-    let last = c.put.ensures ∙ ap (placed c.put_all-2.new.out 72) (one_field r.c) in
-    let w₄ = wrote_fields first (x ++ y) (r.c ∷ []) _ c.put.new.out w₃ last refl in
+    let w₄ = wrote_fields first (x ++ y) (other_decimals r) _ c.put_all-3.new.out w₃ c.put_all-3.ensures refl in
     let w₅ = wrote_next c.clear.new.out gap _ w₄ c.clear.ensures (length-replicate {A = ℕ} (unused_bytes contaminant_pieces) 0) in
     wrote_block 2 p r.class r.id (contaminant_decimals r) gap c.put_last_word.new.out w₅ c.put_last_word.ensures

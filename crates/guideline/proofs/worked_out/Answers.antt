@@ -1,5 +1,5 @@
 -- `guideline::worked_out`: the terms and the columns stand for those of the definitions.
-use Rattle.std.proofs.Common.{◌≡◌, ℕ, refl}
+use Rattle.std.proofs.Common.{◌≡◌, ℕ, refl, ◌∙◌}
 use Rattle.rounding.specs.declared.Direction.TheVariants.{Up}
 use Rattle.inputs.specs.declared.Scenario.{Scenario}
 use Rattle.inputs.specs.declared.Contaminant.{Contaminant}
@@ -13,8 +13,7 @@ use Rattle.terms.proofs.SameValues.{ready, terms_at}
 use Rattle.guideline_rules.proofs.Accepted.{Accepted}
 use Rattle.guideline.specs.declared.Column.{Column}
 use Rattle.guideline.specs.Column.{ColumnFor}
-use Rattle.guideline.proofs.ColumnBounds.{column_printable}
-use Rattle.guideline.proofs.Steps.{TermsOf, ColumnsOf, wide, risk_column, hazard_column, both_are}
+use Rattle.guideline.proofs.Steps.{TermsOf, ColumnsOf, wide, both_printable, both_are}
 use Rattle.guideline.proofs.worked_out.Goals as goal
 
 -- ---- what the code has worked out: the kinds, the terms, then the columns
@@ -30,8 +29,8 @@ module _ {s : Scenario} {medium : ℕ} {r : Contaminant} {m n : ℕ}
   columns_filled g l u q = record { terms = terms_worked g l u; risk = q.0; hazard = q.1 }
 
 -- ---- the calls
-pub of-medium-requires : goal.of-medium-requires
-of-medium-requires c = c.requires.media
+pub of-kind-requires : goal.of-kind-requires
+of-kind-requires c = c.requires.media
 
 pub of-class-requires : goal.of-class-requires
 of-class-requires c = c.requires.class
@@ -44,29 +43,20 @@ terms_of-side-requires c = ready refl c.prepare-p.ensures c.scenario_numbers-f.e
 
 pub columns_of-columns-requires : goal.columns_of-columns-requires
 columns_of-columns-requires c =
-    wide (terms_worked c.of-medium.ensures c.of-class.ensures c.requires
+    wide (terms_worked c.of-kind.ensures c.of-class.ensures c.requires
     c.scenario_numbers-f.ensures c.contaminant_numbers-t.ensures c.terms_of-side.ensures)
 
 pub decimals-requires : goal.decimals-requires
 decimals-requires c =
-    column_printable
-    (risk_column
-    (columns_filled c.of-medium.ensures c.of-class.ensures c.requires
+    both_printable
+    (columns_filled c.of-kind.ensures c.of-class.ensures c.requires
     c.scenario_numbers-f.ensures c.contaminant_numbers-t.ensures c.terms_of-side.ensures
-    c.columns_of-columns.ensures))
-
-pub decimals-requires-2 : goal.decimals-requires-2
-decimals-requires-2 c =
-    column_printable
-    (hazard_column
-    (columns_filled c.of-medium.ensures c.of-class.ensures c.requires
-    c.scenario_numbers-f.ensures c.contaminant_numbers-t.ensures c.terms_of-side.ensures
-    c.columns_of-columns.ensures))
+    c.columns_of-columns.ensures)
 
 pub returns : goal.returns
 returns c =
-    rw (c.decimals.ensures, c.decimals-2.ensures)
-    (both_are
-    (columns_filled c.of-medium.ensures c.of-class.ensures c.requires
+    c.decimals.ensures ∙
+    both_are
+    (columns_filled c.of-kind.ensures c.of-class.ensures c.requires
     c.scenario_numbers-f.ensures c.contaminant_numbers-t.ensures c.terms_of-side.ensures
-    c.columns_of-columns.ensures))
+    c.columns_of-columns.ensures)
