@@ -67,11 +67,12 @@ struct gv_header {
 };
 
 /* A contaminant: class 1 chemical, 2 radionuclide, 3 tritium (in water, and in no site with a chemical); id from 1 on; toxicity,
-   volatilization, permeability, concentration. */
+   volatilization, permeability, concentration; saturation, mg/kg of soil, of a chemical in soil, zero for none. Every byte of
+   `zero` is 0, as in a header. */
 struct gv_contaminant {
     uint32_t class_, id;
-    struct gv_decimal sfo, sfi, sfx, rfdo, rfdi, vf, pc, c;
-    uint8_t zero[428];
+    struct gv_decimal sfo, sfi, sfx, rfdo, rfdi, vf, pc, c, saturation;
+    uint8_t zero[420];
 };
 
 /* A struct that does not have 500 bytes, or has some behind `zero`, is refused when it is compiled: an array of size -1. */
@@ -80,7 +81,8 @@ typedef char gv_header_has_its_size[GV_ENDS(struct gv_header)];
 typedef char gv_contaminant_has_its_size[GV_ENDS(struct gv_contaminant)];
 #undef GV_ENDS
 
-/* What a result block holds: risk and hazard by pathway 1, 2, 3 and in total, zero where absent. */
+/* What a result block holds: risk and hazard by pathway 1, 2, 3 and in total, zero where absent. Pathway 2 of a chemical in
+   soil is at most its saturation; the total does not look at it and can be the higher of the two. */
 struct gv_result {
     uint32_t place, class_, id;
     struct gv_decimal risk[4], hazard[4];
@@ -105,8 +107,8 @@ uint32_t gv_write_contaminant(uint8_t *out, size_t out_len, uint32_t place, cons
 
 /* The single guideline of one contaminant. header points to a struct gv_header, whose count is not looked at, contaminant to
    a struct gv_contaminant. Accepted: eight decimals in the first 64 bytes of out, risk by pathway 1, 2, 3 and in total, then
-   hazard likewise, zero where absent; each is zero or has nine digits, and e is from -999 to 999. Refused: out as it was; 4 or
-   6 in block 0 for the header, 4, 12 or 8 in block 1 for the contaminant, last 10. Returns the refusal number in bits 0 to 7
+   hazard likewise, as in a result block; each is zero or has nine digits, and e is from -999 to 999. Refused: out as it was; 4
+   or 6 in block 0 for the header, 4, 12 or 8 in block 1 for the contaminant, last 10. Returns the refusal number in bits 0 to 7
    and its block in 8 to 15. */
 uint64_t gv_guideline(const uint8_t *header, size_t header_len, const uint8_t *contaminant, size_t contaminant_len, uint8_t *out, size_t out_len);
 
