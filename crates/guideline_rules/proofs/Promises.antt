@@ -186,7 +186,7 @@ module _ (s : Scenario) (medium : ℕ) (r : Contaminant) where
   pub accepted_of : number_of answer ≡ 0 → Accepted s medium r
   accepted_of h = (passed h).inputs
 
-  side_is : number_of answer ≡ 0 → (side : Side) → side_at (guidelines_sent answer) side ≡ guidelines_of s medium r side
+  pub side_is : number_of answer ≡ 0 → (side : Side) → side_at (guidelines_sent answer) side ≡ guidelines_of s medium r side
   side_is h Risk = ap (λ (g : Result Guidelines Refused). (guidelines_sent g).risk) (accepted_is h)
   side_is h Hazard = ap (λ (g : Result Guidelines Refused). (guidelines_sent g).hazard) (accepted_is h)
 

@@ -38,7 +38,7 @@ module _ (r : Contaminant) (valid : valid_of r.saturation ≡ true) where
   pub saturation_value : Value input_range saturation
   saturation_value = fair_value stands
 
-  worth : value_of saturation ≡ value_of r.saturation
+  pub worth : value_of saturation ≡ value_of r.saturation
   worth = let k = valid_small r.saturation valid in working_value r.saturation k.digits (omega (arith, k.low))
 
   -- ---- beside a calculated guideline
@@ -47,11 +47,11 @@ module _ (r : Contaminant) (valid : valid_of r.saturation ≡ true) where
     compared = at_most_is g saturation o (fair_operable stands)
 
     -- a guideline above the saturation is worth more, and the saturation is known
-    record Above : Type 0 where
-      less : value_of saturation < value_of g
-      known : eqb saturation.m 0 ≡ false
+    pub record Above : Type 0 where
+      pub less : value_of saturation < value_of g
+      pub known : eqb saturation.m 0 ≡ false
 
-    above : above_saturation medium r g ≡ true → Above
+    pub above : above_saturation medium r g ≡ true → Above
     above h =
         let p = and_split (saturates medium r) _ h in
         let q = and_split (eqb medium 1) _ p.0 in
