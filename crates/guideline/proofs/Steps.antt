@@ -26,7 +26,7 @@ use Rattle.guideline.specs.declared.Column.{Column}
 use Rattle.guideline.specs.Column.{ColumnFor, PrintableColumn, guidelines_from}
 use Rattle.guideline_rules.proofs.Accepted.{Accepted}
 use Rattle.guideline_rules.specs.declared.SideGuidelines.{SideGuidelines}
-use Rattle.guideline_rules.specs.Saturation.{with_saturation}
+use Rattle.guideline_rules.specs.Saturation.{capped_side}
 use Rattle.guideline_rules.specs.Guideline.{both_sides}
 use Rattle.guideline.proofs.ColumnBounds.{SideStands, ColumnStands, stands_wide, side_wide, column_stands, column_printable, column_is}
 
@@ -87,4 +87,4 @@ module _ {s : Scenario} {medium : ℕ} {r : Contaminant} {f : Factors} {t : Cont
   both_printable = (column_printable risk_column, column_printable hazard_column)
 
   pub both_are : guidelines_from (record { risk = x; hazard = y }) medium r ≡ both_sides s medium r
-  both_are = ap₂ (λ (a b : SideGuidelines). record { risk = with_saturation medium r a; hazard = with_saturation medium r b }) (column_is risk_column) (column_is hazard_column)
+  both_are = ap₂ (λ (a b : SideGuidelines). record { risk = capped_side medium r a; hazard = capped_side medium r b }) (column_is risk_column) (column_is hazard_column)

@@ -5,7 +5,7 @@ use Rattle.decimal.specs.Decimal.{decimal_of, Printable, at_most_of}
 use Rattle.inputs.specs.declared.Contaminant.{Contaminant}
 use Rattle.formulas.specs.declared.Sides.{Sides}
 use Rattle.guideline_rules.specs.Answer.{Guidelines}
-use Rattle.guideline_rules.specs.Saturation.{with_saturation}
+use Rattle.guideline_rules.specs.Saturation.{capped_side}
 use Rattle.terms.specs.Side.{TotalSize}
 use Rattle.guideline_rules.specs.declared.SideGuidelines.{SideGuidelines}
 use Rattle.rounding.specs.declared.Direction.TheVariants.{Down, Up}
@@ -41,4 +41,4 @@ Columns = Sides Column
 
 abbrev pub guidelines_from : Columns → ℕ → Contaminant → Guidelines
 guidelines_from c medium r =
-    record { risk = with_saturation medium r (column_decimals c.risk); hazard = with_saturation medium r (column_decimals c.hazard) }
+    record { risk = capped_side medium r (column_decimals c.risk); hazard = capped_side medium r (column_decimals c.hazard) }

@@ -7,7 +7,7 @@ ghost use Rattle.rounding.specs.Number.{InRange};
 ghost use Rattle.rounding.specs.Operations.{quotient_of};
 ghost use Rattle.terms.specs.Side.{Wide, WideSide};
 ghost use Rattle.guideline.specs.Column.{ColumnFor, PrintableColumn, column_decimals, capped_at, guidelines_from};
-ghost use Rattle.guideline_rules.specs.Saturation.{saturates};
+ghost use Rattle.guideline_rules.specs.Saturation.{has_saturation};
 ghost use Rattle.guideline_rules.proofs.Accepted.{Accepted};
 ghost use Rattle.guideline_rules.specs.Guideline.{both_sides, guideline_of};
 
@@ -87,8 +87,8 @@ fn side_decimals(c: Column) -> SideGuidelines
 }
 
 // Whether the saturation counts: of a chemical in soil, where it is not zero.
-fn saturates(medium: u32, r: Contaminant) -> bool
-    ensures { result ≡ saturates medium r }
+fn has_saturation(medium: u32, r: Contaminant) -> bool
+    ensures { result ≡ has_saturation medium r }
 {
     r.saturation.m != 0 && medium == SOIL && r.class == CHEMICAL
 }
@@ -110,7 +110,7 @@ pub fn decimals(c: Columns, medium: u32, r: Contaminant) -> Guidelines
 {
     let risk = side_decimals(c.risk);
     let hazard = side_decimals(c.hazard);
-    if !saturates(medium, r) {
+    if !has_saturation(medium, r) {
         return Guidelines { risk, hazard };
     }
     let most = r.saturation.working();

@@ -49,7 +49,7 @@ use Rattle.guideline_rules.proofs.Accepted.{Accepted, target_known, values_of_le
 use Rattle.guideline_rules.specs.Pathway.{record_refusal}
 use Rattle.guideline_rules.specs.Guideline.{side_of, calculated_of, guidelines_of, is_capped, both_sides, guidelines_sent, guideline_of}
 use Rattle.guideline_rules.specs.Promise.{pathway_at, Kept, Promised, PathwayPromised}
-use Rattle.guideline_rules.specs.Saturation.{saturates}
+use Rattle.guideline_rules.specs.Saturation.{has_saturation}
 use Rattle.guideline_rules.proofs.Saturation.{as_calculated, capped_value, inhalation_promise, capped_worth}
 use Rattle.guideline_rules.proofs.WorkedOut.{total_bounds, present_total}
 
@@ -205,7 +205,7 @@ module _ (s : Scenario) (medium : ℕ) (r : Contaminant) where
   pathway_promises h side n k = rw (side_is h side) (pathway_promise s medium r (accepted_of h) side n k)
 
   -- inhalation of a chemical in soil with a saturation is worth the lower of the calculated guideline, after its rounding, and the saturation
-  pub inhalation_worth : number_of answer ≡ 0 → saturates medium r ≡ true → (side : Side) →
+  pub inhalation_worth : number_of answer ≡ 0 → has_saturation medium r ≡ true → (side : Side) →
       value_of (side_at (guidelines_sent answer) side).second ≡ min (value_of (calculated_of s medium r side).second) (value_of r.saturation)
   inhalation_worth h k side =
       let a = accepted_of h in

@@ -20,7 +20,7 @@ use Rattle.inputs.specs.Valid.{valid_of}
 use Rattle.inputs.proofs.Tests.{and_split, valid_small}
 use Rattle.formulas.specs.Limits.{input_range}
 use Rattle.formulas.proofs.ValueBounds.{valid_fair}
-use Rattle.guideline_rules.specs.Saturation.{saturates, above_saturation, capped}
+use Rattle.guideline_rules.specs.Saturation.{has_saturation, above_saturation, capped}
 use Rattle.guideline_rules.specs.Promise.{Promised, PathwayPromised}
 
 -- a guideline that is not capped promises both bounds
@@ -53,7 +53,7 @@ module _ (r : Contaminant) (valid : valid_of r.saturation ≡ true) where
 
     pub above : above_saturation medium r g ≡ true → Above
     above h =
-        let p = and_split (saturates medium r) _ h in
+        let p = and_split (has_saturation medium r) _ h in
         let q = and_split (eqb medium 1) _ p.0 in
         let there = (and_split (eqb r.class 1) _ q.1).1 in
         record {
@@ -87,7 +87,7 @@ module _ (r : Contaminant) (valid : valid_of r.saturation ≡ true) where
       inhalation_promise = capped_promise (above_saturation medium r g) refl
 
     -- what it is worth
-    pub capped_worth : saturates medium r ≡ true → value_of (capped medium r g) ≡ min (value_of g) (value_of r.saturation)
+    pub capped_worth : has_saturation medium r ≡ true → value_of (capped medium r g) ≡ min (value_of g) (value_of r.saturation)
     capped_worth h = rw h (cases (at_most_of g saturation) refl)
       where
         cases : (b : Bool) → at_most_of g saturation ≡ b → value_of (cond (not b) saturation g) ≡ min (value_of g) (value_of r.saturation)

@@ -17,7 +17,7 @@ use Rattle.formulas.specs.Term.{term_of, total_of, formulas_for, values_for}
 use Rattle.guideline_rules.specs.Pathway.{record_refusal}
 use Rattle.guideline_rules.specs.declared.SideGuidelines.{SideGuidelines}
 use Rattle.guideline_rules.specs.Answer.{Guidelines}
-use Rattle.guideline_rules.specs.Saturation.{above_saturation, with_saturation}
+use Rattle.guideline_rules.specs.Saturation.{above_saturation, capped_side}
 
 -- ---- the guidelines of a side over its target: target divided by the upper term, down; the total by the upper term sum
 unfoldable pub side_of : List Decimal → Decimal → List Formula → SideGuidelines
@@ -43,7 +43,7 @@ calculated_of s medium r side = side_of (values_for Up s r) (working_target s si
 
 -- and inhalation no higher than the saturation
 abbrev pub guidelines_of : Scenario → ℕ → Contaminant → Side → SideGuidelines
-guidelines_of s medium r side = with_saturation medium r (calculated_of s medium r side)
+guidelines_of s medium r side = capped_side medium r (calculated_of s medium r side)
 
 -- the saturation stands in the place of the guideline of pathway 0, 1 or 2, which it does in inhalation alone
 abbrev pub is_capped : Scenario → ℕ → Contaminant → Side → ℕ → Bool

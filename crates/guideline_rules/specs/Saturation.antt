@@ -11,28 +11,28 @@ use Rattle.inputs.specs.Rules.{is_class}
 use Rattle.guideline_rules.specs.declared.SideGuidelines.{SideGuidelines}
 
 -- the saturation counts: of a chemical in soil, where it is not zero
-abbrev pub saturates : ℕ → Contaminant → Bool
-saturates medium r = eqb medium (medium_number Soil) && (is_class Chemical r && not (eqb r.saturation.m 0))
+abbrev pub has_saturation : ℕ → Contaminant → Bool
+has_saturation medium r = eqb medium (medium_number Soil) && (is_class Chemical r && not (eqb r.saturation.m 0))
 
 -- a calculated guideline is above it; zero, that of an absent pathway, never is
 abbrev pub above_saturation : ℕ → Contaminant → Decimal → Bool
-above_saturation medium r g = saturates medium r && not (at_most_of g (working_of r.saturation))
+above_saturation medium r g = has_saturation medium r && not (at_most_of g (working_of r.saturation))
 
 -- the lower of the two, in working form
 abbrev pub capped : ℕ → Contaminant → Decimal → Decimal
 capped medium r g = cond (above_saturation medium r g) (working_of r.saturation) g
 
 -- a side's guidelines: inhalation capped, the others and the total as calculated
-abbrev pub with_saturation : ℕ → Contaminant → SideGuidelines → SideGuidelines
-with_saturation medium r g = record { first = g.first; second = capped medium r g.second; third = g.third; total = g.total }
+abbrev pub capped_side : ℕ → Contaminant → SideGuidelines → SideGuidelines
+capped_side medium r g = record { first = g.first; second = capped medium r g.second; third = g.third; total = g.total }
 
 -- a chemical in soil
 abbrev pub SoilChemical : ℕ → Contaminant → Type 0
 SoilChemical medium r = (medium ≡ medium_number Soil) × (r.class ≡ class_number Chemical)
 
 -- the record without its saturation
-abbrev pub unsaturated : Contaminant → Contaminant
-unsaturated r = record { class = r.class; id = r.id; toxicity = r.toxicity; transfer = r.transfer; c = r.c; saturation = zero_of }
+abbrev pub without_saturation : Contaminant → Contaminant
+without_saturation r = record { class = r.class; id = r.id; toxicity = r.toxicity; transfer = r.transfer; c = r.c; saturation = zero_of }
 
 -- g and h agree but for inhalation
 pub record SameButInhalation (g h : SideGuidelines) : Type 0 where

@@ -7,3 +7,4 @@ pub mod OnTheWay
 pub mod ExampleSums
 pub mod AnswerBounds
 pub mod Classes
+pub mod WithoutSaturation

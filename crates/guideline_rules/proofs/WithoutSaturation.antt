@@ -15,12 +15,12 @@ use Rattle.inputs.proofs.Tests.{and_split}
 use Rattle.formulas.specs.Side.{Side}
 use Rattle.formulas.specs.Sides.{side_at}
 use Rattle.guideline_rules.specs.declared.SideGuidelines.{SideGuidelines}
-use Rattle.guideline_rules.specs.Saturation.{saturates, SoilChemical, unsaturated, SameButInhalation}
+use Rattle.guideline_rules.specs.Saturation.{has_saturation, SoilChemical, without_saturation, SameButInhalation}
 use Rattle.guideline_rules.specs.Guideline.{side_of, calculated_of, is_capped, guidelines_sent, guideline_of}
 use Rattle.guideline_rules.proofs.Saturation.{above, worth}
 use Rattle.guideline_rules.proofs.Promises.{accepted_of, side_is, inhalation, saturation_valid}
 
-elsewhere : (medium : ℕ) (r : Contaminant) → (SoilChemical medium r → ⊥) → saturates medium r ≡ false
+elsewhere : (medium : ℕ) (r : Contaminant) → (SoilChemical medium r → ⊥) → has_saturation medium r ≡ false
 elsewhere medium r n = cases (eqb medium 1) (eqb r.class 1) refl refl
   where
     cases : (a b : Bool) → eqb medium 1 ≡ a → eqb r.class 1 ≡ b → a && (b && not (eqb r.saturation.m 0)) ≡ false
@@ -34,7 +34,7 @@ module _ (s : Scenario) (medium : ℕ) (r : Contaminant) (z : number_of (guideli
 
   -- what is calculated of the record without its saturation
   abbrev calculated : SideGuidelines
-  calculated = calculated_of s medium (unsaturated r) side
+  calculated = calculated_of s medium (without_saturation r) side
 
   -- ingestion, pathway 3 and the total are as calculated, whatever the saturation
   pub others_as_calculated : SameButInhalation answer calculated
