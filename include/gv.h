@@ -82,7 +82,7 @@ typedef char gv_contaminant_has_its_size[GV_ENDS(struct gv_contaminant)];
 #undef GV_ENDS
 
 /* What a result block holds: risk and hazard by pathway 1, 2, 3 and in total, zero where absent. Pathway 2 of a chemical in
-   soil is at most its saturation; the total does not look at it and can be the higher of the two. */
+   soil that has a saturation is at most the saturation; the total does not look at it and can be above pathway 2. */
 struct gv_result {
     uint32_t place, class_, id;
     struct gv_decimal risk[4], hazard[4];

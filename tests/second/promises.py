@@ -42,8 +42,8 @@ def column_faults(scenario, medium, record, answer):
 
 def cap_of(medium, record, column):
     """What the saturation of a chemical in soil is worth, for its inhalation; None where there is none or it is ignored."""
-    is_capped = (medium, record["class"], column) == (SOIL, CHEMICAL, 1) and record["Csat"].m != 0
-    return value(record["Csat"]) if is_capped else None
+    counts = (medium, record["class"], column) == (SOIL, CHEMICAL, 1) and record["Csat"].m != 0
+    return value(record["Csat"]) if counts else None
 
 
 def distance_faults(what, found, least, cap):

@@ -1,11 +1,11 @@
 -- What the code keeps of a side's guidelines: numbers, and the equations that make them.
-use Rattle.std.specs.Prelude.{◌≡◌, cond, ℕ}
+use Rattle.std.specs.Prelude.{◌≡◌, ℕ}
 use Rattle.decimal.specs.declared.Decimal.{Decimal}
-use Rattle.decimal.specs.Decimal.{decimal_of, Printable, at_most_of}
+use Rattle.decimal.specs.Decimal.{decimal_of, Printable}
 use Rattle.inputs.specs.declared.Contaminant.{Contaminant}
 use Rattle.formulas.specs.declared.Sides.{Sides}
 use Rattle.guideline_rules.specs.Answer.{Guidelines}
-use Rattle.guideline_rules.specs.Saturation.{capped_side}
+use Rattle.guideline_rules.specs.Saturation.{lower_of, capped_side}
 use Rattle.terms.specs.Side.{TotalSize}
 use Rattle.guideline_rules.specs.declared.SideGuidelines.{SideGuidelines}
 use Rattle.rounding.specs.declared.Direction.TheVariants.{Down, Up}
@@ -30,15 +30,16 @@ pub record PrintableColumn (c : Column) : Type 0 where
 
 -- inhalation no higher than this
 abbrev pub capped_at : Decimal → SideGuidelines → SideGuidelines
-capped_at most g = record { first = g.first; second = cond (at_most_of g.second most) g.second most; third = g.third; total = g.total }
+capped_at most g = record { first = g.first; second = lower_of g.second most; third = g.third; total = g.total }
 
 abbrev pub column_decimals : Column → SideGuidelines
 column_decimals c = record { first = decimal_of c.first; second = decimal_of c.second; third = decimal_of c.third; total = decimal_of c.total }
 
--- the guidelines of both sides, with the saturation of the contaminant
+-- the columns of both sides
 abbrev pub Columns : Type 0
 Columns = Sides Column
 
+-- their guidelines as decimals, inhalation no higher than the saturation of the contaminant
 abbrev pub guidelines_from : Columns → ℕ → Contaminant → Guidelines
 guidelines_from c medium r =
     record { risk = capped_side medium r (column_decimals c.risk); hazard = capped_side medium r (column_decimals c.hazard) }

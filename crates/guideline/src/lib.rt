@@ -125,12 +125,12 @@ fn worked_out(s: Scenario, medium: u32, r: Contaminant) -> Guidelines
     requires { Accepted s medium r }
     ensures { result ≡ both_sides s medium r }
 {
-    let kind = Medium::of(medium);
+    let soil_or_water = Medium::of(medium);
     let class = Class::of(r.class);
     let f = factors::numbers::scenario_numbers(s);
-    let p = factors::prepared::prepare(&f, kind, Direction::Up);
+    let p = factors::prepared::prepare(&f, soil_or_water, Direction::Up);
     let t = factors::numbers::contaminant_numbers(r);
-    let side = terms::pathways::terms_of(&f, &p, &t, kind, class, Direction::Up);
+    let side = terms::pathways::terms_of(&f, &p, &t, soil_or_water, class, Direction::Up);
     let columns = columns_of(f.targets, side);
     decimals(columns, medium, r)
 }

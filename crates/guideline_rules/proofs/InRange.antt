@@ -46,7 +46,7 @@ module _ (s : Scenario) (medium : ℕ) (r : Contaminant) (a : Accepted s medium 
   unfolding guideline_steps
   worked_in_range side =
       operands_append (steps_for Up s medium r side) _ (terms_in_range Up side)
-      (rw (target_in_range side, value_operand (saturation_value r (saturation_valid s medium r a)), value_operand (inhalation s medium r a side)) (four_in_range side))
+      (rw (target_in_range side, value_operand (inhalation s medium r a side), value_operand (saturation_value r (saturation_valid s medium r a))) (four_in_range side))
 
 -- THE SINGLE GUIDELINE
 pub guideline_in_range : (s : Scenario) (medium : ℕ) (r : Contaminant) → number_of (guideline_of s medium r) ≡ 0 → (side : Side) →

@@ -2,7 +2,7 @@ pub mod Accepted
 pub mod WorkedOut
 pub mod Saturation
 pub mod Promises
-pub mod WithoutSaturation
+pub mod SaturatedSoil
 pub mod InRange
 pub mod MarkedFigures
 pub mod Refused

@@ -2,7 +2,7 @@
 use mathlib.Core.Path.{◌≡◌, refl, sym, ap, ◌∙◌}
 use mathlib.Core.Bool.{Bool, true, false, false≢true, cond, not}
 use mathlib.Core.List.{List}
-use Prim.Native.Nat.{ℕ, zero, suc, ◌+◌, ◌*◌, ◌≤◌, ◌<◌, min}
+use Prim.Native.Nat.{ℕ, zero, suc, ◌+◌, ◌*◌, ◌≤◌, ◌<◌}
 use native.Mathlib.Omega.{arith}
 use lib.Dec.{eqb, lit≤}
 use lib.ListN.{get_or}
@@ -49,8 +49,7 @@ use Rattle.guideline_rules.proofs.Accepted.{Accepted, target_known, values_of_le
 use Rattle.guideline_rules.specs.Pathway.{record_refusal}
 use Rattle.guideline_rules.specs.Guideline.{side_of, calculated_of, guidelines_of, is_capped, both_sides, guidelines_sent, guideline_of}
 use Rattle.guideline_rules.specs.Promise.{pathway_at, Kept, Promised, PathwayPromised}
-use Rattle.guideline_rules.specs.Saturation.{has_saturation}
-use Rattle.guideline_rules.proofs.Saturation.{as_calculated, capped_value, inhalation_promise, capped_worth}
+use Rattle.guideline_rules.proofs.Saturation.{as_calculated, capped_value, inhalation_promise}
 use Rattle.guideline_rules.proofs.WorkedOut.{total_bounds, present_total}
 
 -- ---- nineteen roundings are less than 2/10,000,000
@@ -150,10 +149,10 @@ module _ (s : Scenario) (medium : ℕ) (r : Contaminant) (a : Accepted s medium 
       PathwayPromised (pathway_at (guidelines_of s medium r side) n) (given (target_of s side)) (exact_present qs (get_or (pathways side) n no_formula))
       (exact_term qs (get_or (pathways side) n no_formula)) (is_capped s medium r side n)
   unfolding side_of
-  pathway_promise side zero h = as_calculated false (calculated_promise side 0)
+  pathway_promise side zero h = as_calculated (calculated_promise side 0)
   pathway_promise side (suc zero) h =
       inhalation_promise r saturation_valid medium _ (value_operable (inhalation side)) (calculated_promise side 1)
-  pathway_promise side (suc (suc zero)) h = as_calculated false (calculated_promise side 2)
+  pathway_promise side (suc (suc zero)) h = as_calculated (calculated_promise side 2)
   pathway_promise side (suc (suc (suc n))) h = absurd (omega (arith, h))
 
 -- ---- from an accepted answer back to the conditions
@@ -197,17 +196,9 @@ module _ (s : Scenario) (medium : ℕ) (r : Contaminant) where
       (exact_total (exact_for s r) (formulas_for s medium r side))
   promise h side = rw (side_is h side) (total_promise s medium r (accepted_of h) side)
 
-  -- the same of each pathway's own guideline; where the saturation stands in the place of inhalation, it is only at most the target
+  -- the same of each pathway's own guideline, without the lower bound where the saturation stands in the place of inhalation
   pub pathway_promises : number_of answer ≡ 0 → (side : Side) (n : ℕ) → n < 3 →
       PathwayPromised (pathway_at (side_at (guidelines_sent answer) side) n) (given (target_of s side))
       (exact_present (exact_for s r) (get_or (formulas_for s medium r side) n no_formula)) (exact_term (exact_for s r) (get_or (formulas_for s medium r side) n no_formula))
       (is_capped s medium r side n)
   pathway_promises h side n k = rw (side_is h side) (pathway_promise s medium r (accepted_of h) side n k)
-
-  -- inhalation of a chemical in soil with a saturation is worth the lower of the calculated guideline, after its rounding, and the saturation
-  pub inhalation_worth : number_of answer ≡ 0 → has_saturation medium r ≡ true → (side : Side) →
-      value_of (side_at (guidelines_sent answer) side).second ≡ min (value_of (calculated_of s medium r side).second) (value_of r.saturation)
-  inhalation_worth h k side =
-      let a = accepted_of h in
-      rw (side_is h side)
-      (capped_worth r (saturation_valid s medium r a) medium (calculated_of s medium r side).second (value_operable (inhalation s medium r a side)) k)

@@ -24,8 +24,8 @@ pub record Promised (g : Decimal) (target : Fraction) (present : Bool) (exact : 
   pub when : not (eqb g.m 0) ≡ present
   pub kept : present ≡ true → Kept g target exact
 
--- the same of the guideline of one pathway, but where the saturation stands in its place: that is at most the target, and no more is said of it
+-- the same of the guideline of one pathway; where the saturation stands in its place, without the lower bound
 pub record PathwayPromised (g : Decimal) (target : Fraction) (present : Bool) (exact : Fraction) (capped : Bool) : Type 0 where
   pub when : not (eqb g.m 0) ≡ present
   pub most : present ≡ true → AtMost (times (given g) exact) target
-  pub kept : capped ≡ false → present ≡ true → Kept g target exact
+  pub least : capped ≡ false → present ≡ true → AtMost (times target nearly) (times (given g) exact)

@@ -1,8 +1,8 @@
 -- Soil saturation: the inhalation guideline of a chemical in soil is the lower of the calculated guideline, after its rounding, and the saturation,
--- by what the two decimals are worth. No other guideline looks at it.
-use Rattle.std.specs.Prelude.{◌≡◌, Bool, not, cond, ◌&&◌, ℕ, eqb}
+-- by what the two decimals are worth, in working form. No other guideline looks at it.
+use Rattle.std.specs.Prelude.{◌≡◌, Bool, false, not, cond, ◌&&◌, ℕ, ◌<◌, eqb}
 use Rattle.decimal.specs.declared.Decimal.{Decimal}
-use Rattle.decimal.specs.Decimal.{zero_of, working_of, at_most_of}
+use Rattle.decimal.specs.Decimal.{zero_of, value_of, working_of, at_most_of}
 use Rattle.inputs.specs.declared.Contaminant.{Contaminant}
 use Rattle.inputs.specs.declared.kind.Class.TheVariants.{Chemical}
 use Rattle.inputs.specs.declared.kind.Medium.TheVariants.{Soil}
@@ -14,21 +14,34 @@ use Rattle.guideline_rules.specs.declared.SideGuidelines.{SideGuidelines}
 abbrev pub has_saturation : ℕ → Contaminant → Bool
 has_saturation medium r = eqb medium (medium_number Soil) && (is_class Chemical r && not (eqb r.saturation.m 0))
 
--- a calculated guideline is above it; zero, that of an absent pathway, never is
-abbrev pub above_saturation : ℕ → Contaminant → Decimal → Bool
-above_saturation medium r g = has_saturation medium r && not (at_most_of g (working_of r.saturation))
+-- the lower of two working decimals
+abbrev pub lower_of : Decimal → Decimal → Decimal
+lower_of a b = cond (at_most_of a b) a b
 
--- the lower of the two, in working form
+-- the guideline of inhalation, from what is calculated; zero, that of an absent pathway, is the lower
 abbrev pub capped : ℕ → Contaminant → Decimal → Decimal
-capped medium r g = cond (above_saturation medium r g) (working_of r.saturation) g
+capped medium r g = cond (has_saturation medium r) (lower_of g (working_of r.saturation)) g
 
 -- a side's guidelines: inhalation capped, the others and the total as calculated
 abbrev pub capped_side : ℕ → Contaminant → SideGuidelines → SideGuidelines
 capped_side medium r g = record { first = g.first; second = capped medium r g.second; third = g.third; total = g.total }
 
--- a chemical in soil
-abbrev pub SoilChemical : ℕ → Contaminant → Type 0
-SoilChemical medium r = (medium ≡ medium_number Soil) × (r.class ≡ class_number Chemical)
+-- what is calculated is above the saturation, which then stands in its place
+abbrev pub above_saturation : ℕ → Contaminant → Decimal → Bool
+above_saturation medium r g = has_saturation medium r && not (at_most_of g (working_of r.saturation))
+
+-- ---- the words of the theorems about it
+-- a chemical in soil that has a saturation
+pub record SaturationCounts (medium : ℕ) (r : Contaminant) : Type 0 where
+  pub soil : medium ≡ medium_number Soil
+  pub chemical : r.class ≡ class_number Chemical
+  pub known : eqb r.saturation.m 0 ≡ false
+
+-- the saturation stands in the place of the guideline of pathway n: of inhalation, which is 1, and of what is worth more
+pub record Replaced (medium : ℕ) (r : Contaminant) (calculated : SideGuidelines) (n : ℕ) : Type 0 where
+  pub inhalation : n ≡ 1
+  pub counts : SaturationCounts medium r
+  pub above : value_of r.saturation < value_of calculated.second
 
 -- the record without its saturation
 abbrev pub without_saturation : Contaminant → Contaminant

@@ -1,5 +1,5 @@
--- Every decimal on the way to the single guideline, on a side: those of the upper terms and their sum, the target, the saturation, the calculated
--- guideline of inhalation, the four guidelines.
+-- Every decimal on the way to the single guideline, on a side: those of the upper terms and their sum, the target, what is calculated of
+-- inhalation, the saturation, the four guidelines.
 use Rattle.std.specs.Prelude.{List, [], ◌∷◌, ◌++◌, ℕ}
 use Rattle.rounding.specs.declared.Direction.TheVariants.{Up}
 use Rattle.decimal.specs.declared.Decimal.{Decimal}
@@ -16,9 +16,9 @@ use Rattle.guideline_rules.specs.Guideline.{calculated_of, guidelines_of}
 abbrev pub four_of : SideGuidelines → List Decimal
 four_of g = g.first ∷ (g.second ∷ (g.third ∷ (g.total ∷ [])))
 
--- what comes before them, behind the terms
-abbrev pub before_four : Scenario → ℕ → Contaminant → Side → List Decimal
-before_four s medium r side = working_target s side ∷ (working_of r.saturation ∷ ((calculated_of s medium r side).second ∷ []))
+-- the target, what is calculated of inhalation, and the saturation that it is compared with
+abbrev pub calculated_steps : Scenario → ℕ → Contaminant → Side → List Decimal
+calculated_steps s medium r side = working_target s side ∷ ((calculated_of s medium r side).second ∷ (working_of r.saturation ∷ []))
 
 unfoldable pub guideline_steps : Scenario → ℕ → Contaminant → Side → List Decimal
-guideline_steps s medium r side = steps_for Up s medium r side ++ (before_four s medium r side ++ four_of (guidelines_of s medium r side))
+guideline_steps s medium r side = steps_for Up s medium r side ++ (calculated_steps s medium r side ++ four_of (guidelines_of s medium r side))

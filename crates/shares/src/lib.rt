@@ -57,13 +57,13 @@ pub fn planned(s: Scenario, medium: u32) -> Plan
     ensures { Planned s medium result }
 {
     let f = factors::numbers::scenario_numbers(s);
-    let kind = Medium::of(medium);
+    let soil_or_water = Medium::of(medium);
     Plan {
         scenario: s,
         medium,
         factors: f,
-        up: factors::prepared::prepare(&f, kind, Direction::Up),
-        down: factors::prepared::prepare(&f, kind, Direction::Down),
+        up: factors::prepared::prepare(&f, soil_or_water, Direction::Up),
+        down: factors::prepared::prepare(&f, soil_or_water, Direction::Down),
     }
 }
 

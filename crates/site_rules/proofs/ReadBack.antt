@@ -39,7 +39,7 @@ use Rattle.site_rules.proofs.Promises.{site_guidelines}
 use Rattle.site_rules.proofs.OutputBlocks.{summary_block_lem, result_block_lem}
 use Rattle.decimal.proofs.Steps.{operands_append, operands_behind, operand_at, operand_among}
 use Rattle.formulas.specs.Steps.{steps_for}
-use Rattle.guideline_rules.specs.Steps.{before_four, four_of, guideline_steps}
+use Rattle.guideline_rules.specs.Steps.{calculated_steps, four_of, guideline_steps}
 use Rattle.guideline_rules.proofs.InRange.{guideline_in_range}
 use Rattle.sum_rules.specs.Steps.{reported_sum, list_steps}
 use Rattle.sum_rules.proofs.InRange.{list_in_range}
@@ -57,8 +57,8 @@ four_operands : (s : Scenario) (medium : ℕ) (r : Contaminant) (side : Side) �
     all_operands (four_of (guidelines_of s medium r side)) ≡ true
 unfolding guideline_steps
 four_operands s medium r side h =
-    operands_behind (before_four s medium r side) (four_of (guidelines_of s medium r side))
-    (operands_behind (steps_for Up s medium r side) (before_four s medium r side ++ four_of (guidelines_of s medium r side)) h)
+    operands_behind (calculated_steps s medium r side) (four_of (guidelines_of s medium r side))
+    (operands_behind (steps_for Up s medium r side) (calculated_steps s medium r side ++ four_of (guidelines_of s medium r side)) h)
 
 -- ---- an accepted site
 module _ (site out : List ℕ) (z : number_of (site_answer site (length out)) ≡ 0) where

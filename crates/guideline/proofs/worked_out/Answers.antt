@@ -29,8 +29,8 @@ module _ {s : Scenario} {medium : ℕ} {r : Contaminant} {m n : ℕ}
   columns_filled g l u q = record { terms = terms_worked g l u; risk = q.0; hazard = q.1 }
 
 -- ---- the calls
-pub of-kind-requires : goal.of-kind-requires
-of-kind-requires c = c.requires.media
+pub of-soil_or_water-requires : goal.of-soil_or_water-requires
+of-soil_or_water-requires c = c.requires.media
 
 pub of-class-requires : goal.of-class-requires
 of-class-requires c = c.requires.class
@@ -43,13 +43,13 @@ terms_of-side-requires c = ready refl c.prepare-p.ensures c.scenario_numbers-f.e
 
 pub columns_of-columns-requires : goal.columns_of-columns-requires
 columns_of-columns-requires c =
-    wide (terms_worked c.of-kind.ensures c.of-class.ensures c.requires
+    wide (terms_worked c.of-soil_or_water.ensures c.of-class.ensures c.requires
     c.scenario_numbers-f.ensures c.contaminant_numbers-t.ensures c.terms_of-side.ensures)
 
 pub decimals-requires : goal.decimals-requires
 decimals-requires c =
     both_printable
-    (columns_filled c.of-kind.ensures c.of-class.ensures c.requires
+    (columns_filled c.of-soil_or_water.ensures c.of-class.ensures c.requires
     c.scenario_numbers-f.ensures c.contaminant_numbers-t.ensures c.terms_of-side.ensures
     c.columns_of-columns.ensures)
 
@@ -57,6 +57,6 @@ pub returns : goal.returns
 returns c =
     c.decimals.ensures ∙
     both_are
-    (columns_filled c.of-kind.ensures c.of-class.ensures c.requires
+    (columns_filled c.of-soil_or_water.ensures c.of-class.ensures c.requires
     c.scenario_numbers-f.ensures c.contaminant_numbers-t.ensures c.terms_of-side.ensures
     c.columns_of-columns.ensures)

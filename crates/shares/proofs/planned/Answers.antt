@@ -12,8 +12,8 @@ prepare-requires-2 c = all_own c.scenario_numbers-f.ensures
 pub scenario_numbers-f-requires : goal.scenario_numbers-f-requires
 scenario_numbers-f-requires c = (fits_parts c.args.s c.args.medium c.requires).0
 
-pub of-kind-requires : goal.of-kind-requires
-of-kind-requires c = (fits_parts c.args.s c.args.medium c.requires).1
+pub of-soil_or_water-requires : goal.of-soil_or_water-requires
+of-soil_or_water-requires c = (fits_parts c.args.s c.args.medium c.requires).1
 
 pub invariant_of-result : goal.invariant_of-result
 invariant_of-result c =
@@ -21,7 +21,7 @@ invariant_of-result c =
       ready = record {
         fits = c.requires;
         factors = c.scenario_numbers-f.ensures;
-        up = rw (← c.of-kind.ensures) c.prepare.ensures;
-        down = rw (← c.of-kind.ensures) c.prepare-2.ensures;
+        up = rw (← c.of-soil_or_water.ensures) c.prepare.ensures;
+        down = rw (← c.of-soil_or_water.ensures) c.prepare-2.ensures;
       };
     }
