@@ -1,11 +1,10 @@
 -- What the code keeps of a side's guidelines: numbers, and the equations that make them.
 use Rattle.std.specs.Prelude.{◌≡◌, ℕ}
-use Rattle.decimal.specs.declared.Decimal.{Decimal}
 use Rattle.decimal.specs.Decimal.{decimal_of, Printable}
 use Rattle.inputs.specs.declared.Contaminant.{Contaminant}
 use Rattle.formulas.specs.declared.Sides.{Sides}
 use Rattle.guideline_rules.specs.Answer.{Guidelines}
-use Rattle.guideline_rules.specs.Saturation.{lower_of, capped_side}
+use Rattle.guideline_rules.specs.Saturation.{capped_side}
 use Rattle.terms.specs.Side.{TotalSize}
 use Rattle.guideline_rules.specs.declared.SideGuidelines.{SideGuidelines}
 use Rattle.rounding.specs.declared.Direction.TheVariants.{Down, Up}
@@ -27,10 +26,6 @@ pub record PrintableColumn (c : Column) : Type 0 where
   pub second : Printable c.second
   pub third : Printable c.third
   pub total : Printable c.total
-
--- inhalation no higher than this
-abbrev pub capped_at : Decimal → SideGuidelines → SideGuidelines
-capped_at most g = record { first = g.first; second = lower_of g.second most; third = g.third; total = g.total }
 
 abbrev pub column_decimals : Column → SideGuidelines
 column_decimals c = record { first = decimal_of c.first; second = decimal_of c.second; third = decimal_of c.third; total = decimal_of c.total }

@@ -6,8 +6,8 @@ ghost use Rattle.rounding.specs.declared.Direction.TheVariants.{Down};
 ghost use Rattle.rounding.specs.Number.{InRange};
 ghost use Rattle.rounding.specs.Operations.{quotient_of};
 ghost use Rattle.terms.specs.Side.{Wide, WideSide};
-ghost use Rattle.guideline.specs.Column.{ColumnFor, PrintableColumn, column_decimals, capped_at, guidelines_from};
-ghost use Rattle.guideline_rules.specs.Saturation.{has_saturation};
+ghost use Rattle.guideline.specs.Column.{ColumnFor, PrintableColumn, column_decimals, guidelines_from};
+ghost use Rattle.guideline_rules.specs.Saturation.{has_saturation, lower_of};
 ghost use Rattle.guideline_rules.proofs.Accepted.{Accepted};
 ghost use Rattle.guideline_rules.specs.Guideline.{both_sides, guideline_of};
 
@@ -93,14 +93,14 @@ fn has_saturation(medium: u32, r: Contaminant) -> bool
     r.saturation.m != 0 && medium == SOIL && r.class == CHEMICAL
 }
 
-// The guidelines of a side, inhalation no higher than this.
-fn capped(g: SideGuidelines, most: Decimal) -> SideGuidelines
-    ensures { result ≡ capped_at most g }
+// The lower of two working decimals.
+fn lower(a: Decimal, b: Decimal) -> Decimal
+    ensures { result ≡ lower_of a b }
 {
-    if g.second.at_most(most) {
-        return g;
+    if a.at_most(b) {
+        return a;
     }
-    SideGuidelines { second: most, ..g }
+    b
 }
 
 // The guidelines of both sides as decimals, inhalation no higher than the saturation of the contaminant.
@@ -108,16 +108,14 @@ pub fn decimals(c: Columns, medium: u32, r: Contaminant) -> Guidelines
     requires { PrintableColumn c.risk × PrintableColumn c.hazard }
     ensures { result ≡ guidelines_from c medium r }
 {
-    let risk = side_decimals(c.risk);
-    let hazard = side_decimals(c.hazard);
-    if !has_saturation(medium, r) {
-        return Guidelines { risk, hazard };
+    let mut risk = side_decimals(c.risk);
+    let mut hazard = side_decimals(c.hazard);
+    if has_saturation(medium, r) {
+        let most = r.saturation.working();
+        risk.second = lower(risk.second, most);
+        hazard.second = lower(hazard.second, most);
     }
-    let most = r.saturation.working();
-    Guidelines {
-        risk: capped(risk, most),
-        hazard: capped(hazard, most),
-    }
+    Guidelines { risk, hazard }
 }
 
 // The guidelines for inputs that keep their rules: no exponent on the way leaves -999 to 999 (`guideline_in_range`).

@@ -18,11 +18,11 @@ use Rattle.formulas.specs.Sides.{side_at}
 use Rattle.guideline_rules.specs.Pathway.{has_pathway, record_refusal}
 use Rattle.guideline_rules.specs.Saturation.{has_saturation, SaturationCounts, Replaced, without_saturation, SameButInhalation}
 use Rattle.guideline_rules.specs.Guideline.{side_of, calculated_of, is_capped, guidelines_sent, guideline_of}
-use Rattle.guideline_rules.proofs.Saturation.{counted, counts, above, worth, capped_worth}
+use Rattle.guideline_rules.proofs.Saturation.{counted, counts, above, saturation_worth, capped_worth}
 use Rattle.guideline_rules.proofs.Promises.{accepted_of, side_is, inhalation, saturation_valid}
 
-elsewhere : (medium : ℕ) (r : Contaminant) → (SaturationCounts medium r → ⊥) → has_saturation medium r ≡ false
-elsewhere medium r n = cases (has_saturation medium r) refl
+not_counted : (medium : ℕ) (r : Contaminant) → (SaturationCounts medium r → ⊥) → has_saturation medium r ≡ false
+not_counted medium r n = cases (has_saturation medium r) refl
   where
     cases : (b : Bool) → has_saturation medium r ≡ b → b ≡ false
     cases true e = absurd (n (counts medium r e))
@@ -48,7 +48,7 @@ module _ (s : Scenario) (medium : ℕ) (r : Contaminant) where
     -- and so is inhalation in water, of what is no chemical, and without a saturation
     pub saturation_ignored : (SaturationCounts medium r → ⊥) → side_at (guidelines_sent (guideline_of s medium r)) side ≡ calculated_of s medium r side
     unfolding side_of
-    saturation_ignored n = side_is s medium r z side ∙ rw (elsewhere medium r n) refl
+    saturation_ignored n = side_is s medium r z side ∙ rw (not_counted medium r n) refl
 
     -- otherwise inhalation is worth the lower of what is calculated, after its rounding, and the saturation
     pub inhalation_worth : SaturationCounts medium r →
@@ -65,4 +65,4 @@ module _ (s : Scenario) (medium : ℕ) (r : Contaminant) where
         let v = saturation_valid s medium r a in
         let p = and_split (eqb n 1) _ h in
         let u = above r v medium (calculated_of s medium r side).second (value_operable (inhalation s medium r a side)) p.1 in
-        record { inhalation = eqb-true n 1 p.0; counts = u.counts; above = omega (arith, u.less, worth r v) }
+        record { inhalation = eqb-true n 1 p.0; counts = u.counts; above = omega (arith, u.less, saturation_worth r v) }

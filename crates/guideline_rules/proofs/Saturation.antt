@@ -52,8 +52,8 @@ module _ (r : Contaminant) (valid : valid_of r.saturation ≡ true) where
   pub saturation_value : Value input_range saturation
   saturation_value = fair_value stands
 
-  pub worth : value_of saturation ≡ value_of r.saturation
-  worth = let k = valid_small r.saturation valid in working_value r.saturation k.digits (omega (arith, k.low))
+  pub saturation_worth : value_of saturation ≡ value_of r.saturation
+  saturation_worth = let k = valid_small r.saturation valid in working_value r.saturation k.digits (omega (arith, k.low))
 
   -- ---- beside a calculated guideline
   module _ (medium : ℕ) (g : Decimal) (o : Operable g) where
@@ -110,5 +110,5 @@ module _ (r : Contaminant) (valid : valid_of r.saturation ≡ true) where
     capped_worth h = rw h (cases (at_most_of g saturation) refl)
       where
         cases : (b : Bool) → at_most_of g saturation ≡ b → value_of (cond b g saturation) ≡ min (value_of g) (value_of r.saturation)
-        cases true e = let l = leb-true (value_of g) (value_of saturation) (sym compared ∙ e) in omega (arith, l, worth)
-        cases false e = let l = leb-false (value_of g) (value_of saturation) (sym compared ∙ e) in omega (arith, l, worth)
+        cases true e = let l = leb-true (value_of g) (value_of saturation) (sym compared ∙ e) in omega (arith, l, saturation_worth)
+        cases false e = let l = leb-false (value_of g) (value_of saturation) (sym compared ∙ e) in omega (arith, l, saturation_worth)
