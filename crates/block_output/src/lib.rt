@@ -1,11 +1,11 @@
 // Puts one block into the first 512 bytes of what is lent: header, contaminant, result, summary.
 #![tactic(auto, using(words::proofs::ReadBack::zeros_placed))]
 
-ghost use Rattle.std.specs.Prelude.{◌≡◌, ◌≤◌, ◌*◌, ◌-◌, true, length};
+ghost use Rattle.std.specs.Prelude.{◌≡◌, ◌≤◌, ◌*◌, ◌-◌, ◌++◌, true, length};
 ghost use Rattle.block_rules.specs.Rules.{block_size};
 ghost use Rattle.words.specs.Words.{zeros};
 ghost use Rattle.words.specs.Bytes.{placed, le4, over};
-ghost use Rattle.block_rules.specs.Layouts.{last_word, first_words, header_block, contaminant_block, result_block, summary_block};
+ghost use Rattle.block_rules.specs.Layouts.{last_word, header_block, contaminant_block, result_block, summary_block};
 
 use block_rules::Header;
 use formulas::Sides;
@@ -25,7 +25,7 @@ fn put_last_word(out: &mut [u8], n: usize)
 // Writes the kind, the place and the two words after them.
 fn put_first_words(out: &mut [u8], kind: u32, place: u32, a: u32, b: u32)
     requires { 16 ≤ length out.old }
-    ensures { out.new ≡ placed out.old 0 (first_words kind place a b) }
+    ensures { out.new ≡ placed out.old 0 (le4 kind ++ le4 place ++ le4 a ++ le4 b) }
 {
     words::put(out, 0, kind);
     words::put(out, 4, place);

@@ -1,10 +1,10 @@
 -- Reading what the writer of kind 1 wrote gives the same header, each decimal with the same m and the same e. Assumes nothing.
 use mathlib.Core.Path.{◌≡◌, refl, ap, ap₂, ◌∙◌}
-use mathlib.Core.List.{List}
+use mathlib.Core.List.{List, [], ◌∷◌}
 use mathlib.Core.Bool.{Bool, true, false, ◌&&◌, not}
-use Prim.Native.Nat.{ℕ, ◌+◌}
+use Prim.Native.Nat.{ℕ, ◌+◌, ◌<◌}
 use native.Mathlib.Omega.{arith}
-use lib.ListN.{length}
+use lib.ListN.{length, get_or}
 use lib.Dec.{eqb, ltb}
 use borrow.Author.Tests.{eq-eqb, not-false}
 use Rattle.outcome.specs.declared.Refusal.{Refusal}
@@ -14,30 +14,25 @@ use Rattle.words.specs.Bytes.{over}
 use Rattle.words.proofs.Written.{part_over}
 use Rattle.decimal.specs.declared.Decimal.{Decimal}
 use Rattle.inputs.specs.declared.Scenario.{Scenario}
-use Rattle.inputs.specs.Inputs.{scenario_decimals, scenario_places, scenario_of}
+use Rattle.inputs.specs.Inputs.{scenario_decimals, scenario_of}
 use Rattle.inputs.specs.Valid.{all_valid}
 use Rattle.inputs.specs.Rules.{one_to, most_medium, scenario_fits, lacks_factor}
 use Rattle.inputs.proofs.Tests.{and_split, one_to_lem, scenario_of_lem}
-use Rattle.fields.specs.Fields.{decimals_at}
 use Rattle.fields.proofs.ReadBack.{all_fit}
 use Rattle.block_rules.specs.declared.Header.{Header}
 use Rattle.block_rules.specs.Rules.{in_file, count_ok}
-use Rattle.block_rules.specs.Pieces.{header_pieces, unused_bytes}
+use Rattle.block_rules.specs.Pieces.{scenario_pieces, header_pieces, words_in, decimals_in}
 use Rattle.block_rules.specs.Reading.{scenario_at, header_at, header_unused, sound_at, header_read}
 use Rattle.outcome.proofs.Tests.{passed}
 use Rattle.std.specs.Prelude.{Result, Ok, ⊤}
 use Rattle.block_rules.proofs.Rules.{in_file_lem}
-use Rattle.block_rules.specs.Layouts.{unused_of, header_block}
+use Rattle.block_rules.specs.Layouts.{header_block}
 use Rattle.block_rules.specs.Answers.{header_fit, header_refusal, left_by, header_left}
-use Rattle.block_rules.proofs.ReadBack.{zeros_long, kind_back, first_back, second_back, decimals_back, block_length, sound_back, record_unused_back}
-
--- the zero bytes behind the scenario
-abbrev gap : List ℕ
-gap = unused_of header_pieces
+use Rattle.block_rules.proofs.ReadBack.{kind_back, block_length, sound_back, block_words, block_decimals, block_unused}
 
 pub header_length : (h : Header) → length (header_block h) ≡ 512
 unfolding header_block
-header_length h = block_length 1 0 h.medium h.count (scenario_decimals h.scenario) gap (zeros_long scenario_places (unused_bytes header_pieces) refl)
+header_length h = block_length 1 0 header_pieces (h.medium ∷ h.count ∷ []) (scenario_decimals h.scenario) refl refl
 
 module _ (h : Header) (fit : header_fit h ≡ true) (known : lacks_factor h.scenario ≡ false) where
   abbrev hb : List ℕ
@@ -45,6 +40,9 @@ module _ (h : Header) (fit : header_fit h ≡ true) (known : lacks_factor h.scen
 
   abbrev s : Scenario
   s = h.scenario
+
+  abbrev ws : List ℕ
+  ws = h.medium ∷ h.count ∷ []
 
   abbrev ds : List Decimal
   ds = scenario_decimals h.scenario
@@ -63,37 +61,41 @@ module _ (h : Header) (fit : header_fit h ≡ true) (known : lacks_factor h.scen
   decimals_good : all_valid ds ≡ true
   decimals_good = (and_split (one_to most_medium h.medium) (all_valid ds) valid).1
 
-  read_decimals : decimals_at hb 16 scenario_places ≡ ds
-  unfolding header_block
-  read_decimals = decimals_back 1 0 h.medium h.count ds gap (all_fit ds decimals_good)
+  read_decimals : decimals_in scenario_pieces hb 16 ≡ ds
+  unfolding header_block decimals_in
+  read_decimals = block_decimals 1 0 header_pieces ws ds refl refl (all_fit ds decimals_good)
 
   read_scenario : scenario_at hb 16 ≡ s
   unfolding scenario_at
   read_scenario = ap scenario_of read_decimals ∙ scenario_of_lem s
 
-  read_count : word_at hb 12 ≡ h.count
+  read_word : (n : ℕ) → get_or ws n 0 < 4294967296 → get_or (words_in header_pieces hb 8) n 0 ≡ get_or ws n 0
   unfolding header_block
-  read_count = second_back 1 0 h.medium h.count ds gap (omega (arith, in_file_lem h.count counted))
+  read_word = block_words 1 0 header_pieces ws ds refl refl refl
+
+  read_count : word_at hb 12 ≡ h.count
+  unfolding words_in
+  read_count = read_word 1 (omega (arith, in_file_lem h.count counted))
+
+  read_medium : word_at hb 8 ≡ h.medium
+  unfolding words_in
+  read_medium = read_word 0 (omega (arith, (one_to_lem most_medium h.medium medium_good).1))
 
   read_header_lem : header_at hb 8 ≡ h
-  unfolding header_at header_block
-  read_header_lem = λ i. record {
-    medium = first_back 1 0 h.medium h.count ds gap (omega (arith, (one_to_lem most_medium h.medium medium_good).1)) i;
-    count = read_count i;
-    scenario = read_scenario i;
-  }
+  unfolding header_at
+  read_header_lem = λ i. record { medium = read_medium i; count = read_count i; scenario = read_scenario i }
 
   unused : header_unused hb 8 ≡ true
   unfolding header_unused header_block
-  unused = record_unused_back 1 0 h.medium h.count ds (unused_bytes header_pieces)
+  unused = block_unused 1 0 header_pieces ws ds refl refl
 
   sound : sound_at hb 0 ≡ true
   unfolding header_block
-  sound = sound_back 1 0 h.medium h.count ds gap (zeros_long scenario_places (unused_bytes header_pieces) refl) (omega arith)
+  sound = sound_back 1 0 header_pieces ws ds refl refl (omega arith)
 
   kind : word_at hb 0 ≡ 1
   unfolding header_block
-  kind = kind_back 1 0 h.medium h.count ds gap (omega arith)
+  kind = kind_back 1 0 header_pieces ws ds (omega arith)
 
   count_good : count_ok (word_at hb 12) (h.count + 1) ≡ true
   unfolding count_ok

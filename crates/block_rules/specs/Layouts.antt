@@ -1,13 +1,12 @@
 -- The four kinds of block as 512 bytes (docs/FORMAT.md).
-use Rattle.std.specs.Prelude.{ℕ, ◌-◌, ◌%◌, List, [], ◌∷◌, ◌++◌, replicate}
+use Rattle.std.specs.Prelude.{ℕ, ◌-◌, ◌%◌, List, [], ◌∷◌, ◌++◌}
 use Rattle.words.specs.Words.{word_sum}
 use Rattle.words.specs.Bytes.{le4}
 use Rattle.decimal.specs.declared.Decimal.{Decimal}
-use Rattle.fields.specs.Fields.{field_bytes}
 use Rattle.inputs.specs.declared.Contaminant.{Contaminant}
 use Rattle.inputs.specs.Inputs.{scenario_decimals, contaminant_decimals}
 use Rattle.block_rules.specs.declared.Header.{Header}
-use Rattle.block_rules.specs.Pieces.{Piece, header_pieces, contaminant_pieces, result_pieces, summary_pieces, unused_bytes}
+use Rattle.block_rules.specs.Pieces.{Piece, bytes_of, header_pieces, contaminant_pieces, result_pieces, summary_pieces}
 use Rattle.guideline_rules.specs.declared.SideGuidelines.{SideGuidelines}
 use Rattle.guideline_rules.specs.Steps.{four_of}
 use Rattle.sum_rules.specs.declared.SideSums.{SideSums}
@@ -17,41 +16,35 @@ use Rattle.sum_rules.specs.Verdict.{verdict_number}
 unfoldable pub last_word : List ℕ → ℕ
 last_word l = (4294967296 - word_sum l 127 % 4294967296) % 4294967296
 
--- kind, place, and the words at 8 and 12
-unfoldable pub first_words : ℕ → ℕ → ℕ → ℕ → List ℕ
-first_words kind place a b = le4 kind ++ le4 place ++ le4 a ++ le4 b
-
--- 508 bytes: the first words, from 16 decimals, and the bytes after them
-unfoldable pub body_of : ℕ → ℕ → ℕ → ℕ → List Decimal → List ℕ → List ℕ
-body_of kind place a b ds rest = first_words kind place a b ++ field_bytes ds ++ rest
+-- 508 bytes: kind, place, and the pieces, with these words and decimals
+unfoldable pub body_of : ℕ → ℕ → List Piece → List ℕ → List Decimal → List ℕ
+body_of kind place ps ws ds = le4 kind ++ (le4 place ++ bytes_of ps ws ds)
 
 -- and the last word
-unfoldable pub block_of : ℕ → ℕ → ℕ → ℕ → List Decimal → List ℕ → List ℕ
-block_of kind place a b ds rest = body_of kind place a b ds rest ++ le4 (last_word (body_of kind place a b ds rest))
-
--- the zero bytes behind the fields
-abbrev pub unused_of : List Piece → List ℕ
-unused_of ps = replicate (unused_bytes ps) 0
+unfoldable pub block_of : ℕ → ℕ → List Piece → List ℕ → List Decimal → List ℕ
+block_of kind place ps ws ds = body_of kind place ps ws ds ++ le4 (last_word (body_of kind place ps ws ds))
 
 -- kind 1, header, place 0
 unfoldable pub header_block : Header → List ℕ
-header_block h = block_of 1 0 h.medium h.count (scenario_decimals h.scenario) (unused_of header_pieces)
+header_block h = block_of 1 0 header_pieces (h.medium ∷ h.count ∷ []) (scenario_decimals h.scenario)
 
 -- kind 2, contaminant
 unfoldable pub contaminant_block : ℕ → Contaminant → List ℕ
-contaminant_block place r = block_of 2 place r.class r.id (contaminant_decimals r) (unused_of contaminant_pieces)
+contaminant_block place r = block_of 2 place contaminant_pieces (r.class ∷ r.id ∷ []) (contaminant_decimals r)
 
 -- kind 3, result: risk 1, 2, 3, total, then hazard likewise
 abbrev pub guideline_decimals : SideGuidelines → SideGuidelines → List Decimal
 guideline_decimals r h = four_of r ++ four_of h
 
 unfoldable pub result_block : ℕ → ℕ → ℕ → SideGuidelines → SideGuidelines → List ℕ
-result_block place class id risk hazard = block_of 3 place class id (guideline_decimals risk hazard) (unused_of result_pieces)
+result_block place class id risk hazard = block_of 3 place result_pieces (class ∷ id ∷ []) (guideline_decimals risk hazard)
 
--- kind 4, summary, place 0: lower and upper sums, at 48 the risk verdict, at 52 the hazard verdict
+-- kind 4, summary, place 0: lower and upper sums, then the verdicts
 abbrev pub summary_decimals : SideSums → SideSums → List Decimal
 summary_decimals r h = r.lower ∷ (r.upper ∷ (h.lower ∷ (h.upper ∷ [])))
 
+abbrev pub summary_words : SideSums → SideSums → List ℕ
+summary_words r h = 0 ∷ (0 ∷ (verdict_number r.verdict ∷ (verdict_number h.verdict ∷ [])))
+
 unfoldable pub summary_block : SideSums → SideSums → List ℕ
-summary_block risk hazard =
-    block_of 4 0 0 0 (summary_decimals risk hazard) (le4 (verdict_number risk.verdict) ++ (le4 (verdict_number hazard.verdict) ++ unused_of summary_pieces))
+summary_block risk hazard = block_of 4 0 summary_pieces (summary_words risk hazard) (summary_decimals risk hazard)

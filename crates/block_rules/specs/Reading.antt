@@ -3,19 +3,18 @@ use Rattle.std.specs.Prelude.{ℕ, ◌+◌, ◌%◌, List, Bool, ◌&&◌, not, 
 use Rattle.outcome.specs.declared.Refusal.TheVariants.{Length, Check, Kind, Field, Count, Factor, Order}
 use Rattle.outcome.specs.declared.Refusal.{Refusal}
 use Rattle.words.specs.Words.{word_at, word_sum}
-use Rattle.fields.specs.Fields.{decimals_at}
 use Rattle.inputs.specs.declared.Scenario.{Scenario}
 use Rattle.inputs.specs.declared.Contaminant.{Contaminant}
-use Rattle.inputs.specs.Inputs.{scenario_places, contaminant_places, scenario_of, contaminant_of}
+use Rattle.inputs.specs.Inputs.{scenario_of, contaminant_of}
 use Rattle.inputs.specs.BuiltIn.{blank, no_contaminant}
 use Rattle.inputs.specs.Rules.{scenario_fits, contaminant_fits, lacks_factor}
 use Rattle.block_rules.specs.declared.Header.{Header}
 use Rattle.block_rules.specs.Rules.{count_ok, block_size}
-use Rattle.block_rules.specs.Pieces.{header_pieces, contaminant_pieces, unused_in}
+use Rattle.block_rules.specs.Pieces.{scenario_pieces, value_pieces, header_pieces, contaminant_pieces, decimals_in, unused_in}
 
 -- the scenario whose first decimal stands at `at`
 unfoldable pub scenario_at : List ℕ → ℕ → Scenario
-scenario_at s at = scenario_of (decimals_at s at scenario_places)
+scenario_at s at = scenario_of (decimals_in scenario_pieces s at)
 
 -- a header whose medium stands at `at`: in a block at 8
 unfoldable pub header_at : List ℕ → ℕ → Header
@@ -27,7 +26,7 @@ header_unused s at = unused_in header_pieces s at
 
 -- a contaminant whose class stands at `at`: in a block at 8
 unfoldable pub contaminant_at : List ℕ → ℕ → Contaminant
-contaminant_at s at = contaminant_of (word_at s at) (word_at s (at + 4)) (decimals_at s (at + 8) contaminant_places)
+contaminant_at s at = contaminant_of (word_at s at) (word_at s (at + 4)) (decimals_in value_pieces s (at + 8))
 
 -- its unused bytes are zero
 unfoldable pub contaminant_unused : List ℕ → ℕ → Bool

@@ -9,17 +9,16 @@ use lib.Dec.{eqb, leb}
 use borrow.Author.Tests.{ne_eqb, eqb-true, leb-true, leb-false}
 use Rattle.words.specs.Words.{part_of}
 use Rattle.words.proofs.Parts.{word_part, part_part}
-use Rattle.inputs.specs.Inputs.{scenario_places, contaminant_places, scenario_of, contaminant_of}
-use Rattle.fields.proofs.Fields.{decimals_part}
-use Rattle.block_rules.specs.Pieces.{header_pieces, contaminant_pieces}
+use Rattle.inputs.specs.Inputs.{scenario_of, contaminant_of}
+use Rattle.block_rules.specs.Pieces.{scenario_pieces, value_pieces, header_pieces, contaminant_pieces}
 use Rattle.block_rules.specs.Reading.{scenario_at, header_at, header_unused, contaminant_at, contaminant_unused}
-use Rattle.block_rules.proofs.Pieces.{unused_in_part}
+use Rattle.block_rules.proofs.Pieces.{unused_in_part, decimals_in_part}
 use Rattle.block_rules.proofs.Rules.{is_block}
 
 module _ (b : List ℕ) where
   scenario_part : scenario_at (part_of b 4 504) 12 ≡ scenario_at b 16
   unfolding scenario_at
-  scenario_part = ap scenario_of (decimals_part b 4 504 12 scenario_places (omega arith))
+  scenario_part = ap scenario_of (decimals_in_part scenario_pieces b 4 504 12 (omega arith))
 
   pub header_part : header_at (part_of b 4 504) 4 ≡ header_at b 8
   unfolding header_at
@@ -31,7 +30,7 @@ module _ (b : List ℕ) where
 
   pub contaminant_part : contaminant_at (part_of b 4 504) 4 ≡ contaminant_at b 8
   unfolding contaminant_at
-  contaminant_part = λ i. contaminant_of (word_part b 4 504 4 (omega arith) i) (word_part b 4 504 8 (omega arith) i) (decimals_part b 4 504 12 contaminant_places (omega arith) i)
+  contaminant_part = λ i. contaminant_of (word_part b 4 504 4 (omega arith) i) (word_part b 4 504 8 (omega arith) i) (decimals_in_part value_pieces b 4 504 12 (omega arith) i)
 
   pub contaminant_unused_part : contaminant_unused (part_of b 4 504) 4 ≡ contaminant_unused b 8
   unfolding contaminant_unused

@@ -1,28 +1,26 @@
 -- `block_output::put_contaminant`: the steps one behind the other make the block.
-use Rattle.std.proofs.Common.{ℕ, ◌++◌, refl}
-use lib.ListN.{length-replicate}
-use Rattle.words.proofs.Written.{wrote_none, wrote_next}
+use Rattle.std.proofs.Common.{[], ◌∷◌, ◌++◌, refl, append_assoc, append-nil}
+use Rattle.words.proofs.Written.{wrote_next}
 use Rattle.fields.specs.Fields.{field_bytes}
 use Rattle.fields.proofs.ReadBack.{field_bytes_length}
 use Rattle.inputs.specs.Inputs.{toxicity_decimals, transfer_decimals, other_decimals, contaminant_decimals}
-use Rattle.block_rules.specs.Pieces.{contaminant_pieces, unused_bytes}
-use Rattle.block_rules.specs.Layouts.{first_words, body_of, unused_of, contaminant_block}
-use Rattle.block_rules.proofs.Lengths.{first_words_length}
-use Rattle.block_output.proofs.Blocks.{wrote_group, wrote_fields, wrote_block}
+use Rattle.block_rules.specs.Pieces.{contaminant_pieces, bytes_of}
+use Rattle.block_rules.specs.Layouts.{body_of, contaminant_block}
+use Rattle.block_output.proofs.Blocks.{first_words, wrote_first, wrote_group, wrote_fields, wrote_gap, wrote_block}
 use Rattle.block_output.proofs.put_contaminant.Goals as goal
 
 pub returns : goal.returns
-unfolding contaminant_block body_of
+unfolding contaminant_block body_of bytes_of
 returns c =
     let p = c.args.place in
     let r = c.args.r in
     let first = first_words 2 p r.class r.id in
     let x = toxicity_decimals r.toxicity in
     let y = transfer_decimals r.transfer in
-    let gap = unused_of contaminant_pieces in
-    let w₁ = wrote_next c.put_first_words.new.out first 16 (wrote_none c.args.out.now) c.put_first_words.ensures (first_words_length 2 p r.class r.id) in
+    let w₁ = wrote_first 2 p r.class r.id c.put_first_words.ensures in
     let w₂ = wrote_next c.put_all.new.out (field_bytes x) _ w₁ (wrote_group _ _ c.put_all.ensures c.into.ensures) (field_bytes_length x) in
     let w₃ = wrote_fields first x y _ c.put_all-2.new.out w₂ (wrote_group _ _ c.put_all-2.ensures c.into-2.ensures) refl in
     let w₄ = wrote_fields first (x ++ y) (other_decimals r) _ c.put_all-3.new.out w₃ c.put_all-3.ensures refl in
-    let w₅ = wrote_next c.clear.new.out gap _ w₄ c.clear.ensures (length-replicate {A = ℕ} (unused_bytes contaminant_pieces) 0) in
-    wrote_block 2 p r.class r.id (contaminant_decimals r) gap c.put_last_word.new.out w₅ c.put_last_word.ensures
+    let w₅ = wrote_gap 420 c.clear.new.out w₄ c.clear.ensures in
+    let ws = r.class ∷ r.id ∷ [] in
+    wrote_block 2 p contaminant_pieces ws (contaminant_decimals r) c.put_last_word.new.out w₅ (simp (append_assoc, append-nil)) c.put_last_word.ensures

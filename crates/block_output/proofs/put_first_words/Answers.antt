@@ -3,11 +3,9 @@ use Rattle.std.proofs.Common.{arith}
 use Rattle.words.specs.Bytes.{le4}
 use Rattle.words.proofs.Words.{le4_length}
 use Rattle.words.proofs.Written.{Placed, placed_next}
-use Rattle.block_rules.specs.Layouts.{first_words}
 use Rattle.block_output.proofs.put_first_words.Goals as goal
 
 pub returns : goal.returns
-unfolding first_words
 returns c =
     let x = c.args in
     let one : Placed c.put.new.out x.out.now (le4 x.kind) 0 4 = record { now = c.put.ensures; end = omega (arith, le4_length x.kind); room = omega arith } in

@@ -1,15 +1,10 @@
--- `blocks::header_unused`: the unused bytes of the decimals, and those behind them.
-use Rattle.std.proofs.Common.{Bool, sym, ◌∙◌}
-use mathlib.Core.Path.{ap₂}
-use mathlib.Core.Bool.{◌&&◌}
-use Rattle.inputs.specs.Inputs.{scenario_places}
-use Rattle.block_rules.specs.Pieces.{header_pieces, unused_bytes}
+-- `blocks::header_unused`: each test is that of a piece.
+use mathlib.Core.Bool.{and-true, and_assoc}
+use native.Mathlib.Nat.{add_assoc}
+use Rattle.block_rules.specs.Pieces.{unused_in}
 use Rattle.block_rules.specs.Reading.{header_unused}
-use Rattle.block_rules.proofs.Pieces.{record_unused}
 use Rattle.blocks.proofs.header_unused.Goals as goal
 
 pub returns : goal.returns
-unfolding header_unused
-returns c =
-    ap₂ (λ (x y : Bool). x && y) c.unused_zero.ensures c.all_zero.ensures
-    ∙ sym (record_unused scenario_places (unused_bytes header_pieces) c.args.part.now c.args.at)
+unfolding header_unused unused_in
+returns c = simp (add_assoc, and-true, and_assoc, c.unused_zero.ensures, c.all_zero.ensures)
