@@ -5,15 +5,15 @@ use mathlib.Core.List.{List, [], ◌∷◌, ◌++◌}
 use Prim.Native.Nat.{ℕ, zero, suc, ◌≤◌, ◌<◌}
 use native.Mathlib.Omega.{arith}
 use lib.Dec.{leb}
-use lib.ListN.{get_or, length}
+use lib.ListN.{get_or, length, drop}
 use borrow.Author.Tests.{leb-true}
 use Rattle.decimal.specs.declared.Decimal.{Decimal}
 use Rattle.decimal.specs.Exponent.{raised}
 use Rattle.decimal.specs.Decimal.{zero_of}
 use Rattle.inputs.specs.declared.Scenario.{Scenario}
 use Rattle.inputs.specs.declared.Contaminant.{Contaminant}
-use Rattle.inputs.specs.Inputs.{scenario_decimals, formula_decimals, contaminant_decimals, scenario_places, contaminant_places, other_decimals}
-use Rattle.inputs.specs.Inputs.{exposure_of, contact_of, targets_of, house_of, toxicity_of, transfer_of, scenario_of, contaminant_of}
+use Rattle.inputs.specs.Inputs.{scenario_decimals, toxicity_decimals, transfer_decimals, formula_decimals, contaminant_decimals, scenario_places, contaminant_places}
+use Rattle.inputs.specs.Inputs.{exposure_of, contact_of, targets_of, house_of, age_of, ages_of, toxicity_of, transfer_of, scenario_of, contaminant_of}
 use Rattle.inputs.specs.Valid.{valid_of, all_valid}
 use Rattle.inputs.specs.Rules.{one_to, OneTo}
 
@@ -49,7 +49,11 @@ valid_join (d ∷ ds) y = ap (λ (b : Bool). valid_of d && b) (valid_join ds y) 
 pub valid_parts : (x y : List Decimal) → all_valid (x ++ y) ≡ true → (all_valid x ≡ true) × (all_valid y ≡ true)
 valid_parts x y h = and_split (all_valid x) (all_valid y) (sym (valid_join x y) ∙ h)
 
--- what the formulas name of a contaminant, C, and the saturation
+pub valid_append : (x y : List Decimal) → all_valid x ≡ true → all_valid y ≡ true → all_valid (x ++ y) ≡ true
+valid_append [] y h k = k
+valid_append (d ∷ ds) y h k = let a = and_split (valid_of d) (all_valid ds) h in rw a.0 (valid_append ds y a.1 k)
+
+-- what the formulas name of a contaminant, C, and the saturation: each keeps its rule where all of its decimals do
 pub record ValidParts (r : Contaminant) : Type 0 where
   pub formulas : all_valid (formula_decimals r) ≡ true
   pub c : valid_of r.c ≡ true
@@ -57,17 +61,20 @@ pub record ValidParts (r : Contaminant) : Type 0 where
 
 pub contaminant_parts : (r : Contaminant) → all_valid (contaminant_decimals r) ≡ true → ValidParts r
 contaminant_parts r h =
-    let p = valid_parts (formula_decimals r) (other_decimals r) h in
-    record { formulas = p.0; c = valid_at (other_decimals r) p.1 0; saturation = valid_at (other_decimals r) p.1 1 }
+    let all = contaminant_decimals r in
+    let x = valid_parts (toxicity_decimals r.toxicity) (drop 5 all) h in
+    let y = valid_parts (transfer_decimals r.transfer) (drop 7 all) x.1 in
+    let abs : all_valid (r.abs ∷ []) ≡ true = rw (valid_at all h 9) refl in
+    record {
+      formulas = valid_append (toxicity_decimals r.toxicity) (transfer_decimals r.transfer ++ (r.abs ∷ [])) x.0 (valid_append (transfer_decimals r.transfer) (r.abs ∷ []) y.0 abs);
+      c = valid_at all h 7;
+      saturation = valid_at all h 8;
+    }
 
 -- the targets of a scenario
 pub target_parts : (s : Scenario) → all_valid (scenario_decimals s) ≡ true → (valid_of s.targets.tr ≡ true) × (valid_of s.targets.thi ≡ true)
 target_parts s h =
     (valid_at (scenario_decimals s) h 10, valid_at (scenario_decimals s) h 11)
-
-pub valid_append : (x y : List Decimal) → all_valid x ≡ true → all_valid y ≡ true → all_valid (x ++ y) ≡ true
-valid_append [] y h k = k
-valid_append (d ∷ ds) y h k = let a = and_split (valid_of d) (all_valid ds) h in rw a.0 (valid_append ds y a.1 k)
 
 -- ---- the conditions that were passed
 pub one_to_lem : (most n : ℕ) → one_to most n ≡ true → OneTo most n
@@ -75,7 +82,7 @@ one_to_lem most n h = let a = and_split (leb 1 n) (leb n most) h in (leb-true 1 
 
 -- ---- a record comes back out of the list of its decimals
 pub scenario_of_lem : (s : Scenario) → scenario_of (scenario_decimals s) ≡ s
-unfolding scenario_of exposure_of contact_of targets_of house_of
+unfolding scenario_of exposure_of contact_of targets_of house_of age_of ages_of
 scenario_of_lem s = refl
 
 pub contaminant_of_lem : (r : Contaminant) → contaminant_of r.class r.id (contaminant_decimals r) ≡ r

@@ -7,6 +7,8 @@ use Rattle.outcome.specs.Outcome.{refused}
 use Rattle.decimal.specs.Figures.{dec}
 use Rattle.decimal.specs.declared.Decimal.{Decimal}
 use Rattle.inputs.specs.declared.groups.House.{House}
+use Rattle.inputs.specs.declared.groups.Age.{Age}
+use Rattle.inputs.specs.declared.groups.Ages.{Ages}
 use Rattle.inputs.specs.declared.Scenario.{Scenario}
 use Rattle.inputs.specs.declared.Contaminant.{Contaminant}
 use Rattle.inputs.specs.Inputs.{scenario_of, contaminant_of}
@@ -15,6 +17,13 @@ use Rattle.inputs.specs.Inputs.{scenario_of, contaminant_of}
 abbrev no_house : House Decimal
 no_house = record { m = dec 0 (pos 0); f = dec 0 (pos 0); n = dec 0 (pos 0); s = dec 0 (pos 0); v = dec 0 (pos 0); l = dec 0 (pos 0); w = dec 0 (pos 0); k = dec 0 (pos 0) }
 
+-- or anything of soil on skin
+abbrev no_age : Age Decimal
+no_age = record { sa = dec 0 (pos 0); ef = dec 0 (pos 0); ed = dec 0 (pos 0); bw = dec 0 (pos 0) }
+
+abbrev pub no_ages : Ages Decimal
+no_ages = record { child = no_age; adult = no_age; af = dec 0 (pos 0) }
+
 -- 1 office worker (002, Table 5.1.1)
 abbrev pub office : Scenario
 office = record {
@@ -22,6 +31,7 @@ office = record {
   contact = record { ir = dec 50 (pos 0); ira = dec 20 (pos 0); pef = dec 428 (pos 7); et = dec 0 (pos 0); rf = dec 0 (pos 0); sa = dec 0 (pos 0) };
   targets = record { tr = dec 1 (negsuc 5); thi = dec 1 (pos 0) };
   house = no_house;
+  ages = no_ages;
 }
 
 -- 2 archeologist (004)
@@ -31,6 +41,7 @@ archeologist = record {
   contact = record { ir = dec 200 (pos 0); ira = dec 15 (pos 0); pef = dec 5 (pos 6); et = dec 8 (pos 0); rf = dec 1 (pos 0); sa = dec 0 (pos 0) };
   targets = record { tr = dec 1 (negsuc 5); thi = dec 1 (pos 0) };
   house = no_house;
+  ages = no_ages;
 }
 
 -- 3 bird watcher (004)
@@ -40,6 +51,7 @@ bird_watcher = record {
   contact = record { ir = dec 25 (pos 0); ira = dec 5 (pos 0); pef = dec 2 (pos 7); et = dec 4 (pos 0); rf = dec 8 (negsuc 0); sa = dec 0 (pos 0) };
   targets = record { tr = dec 1 (negsuc 5); thi = dec 1 (pos 0) };
   house = no_house;
+  ages = no_ages;
 }
 
 -- zero decimals

@@ -6,6 +6,8 @@ use Rattle.inputs.specs.declared.groups.Exposure.{Exposure}
 use Rattle.inputs.specs.declared.groups.Contact.{Contact}
 use Rattle.inputs.specs.declared.groups.Targets.{Targets}
 use Rattle.inputs.specs.declared.groups.House.{House}
+use Rattle.inputs.specs.declared.groups.Age.{Age}
+use Rattle.inputs.specs.declared.groups.Ages.{Ages}
 use Rattle.inputs.specs.declared.Scenario.{Scenario}
 use Rattle.inputs.specs.declared.groups.Toxicity.{Toxicity}
 use Rattle.inputs.specs.declared.groups.Transfer.{Transfer}
@@ -24,32 +26,36 @@ target_decimals x = x.tr ∷ (x.thi ∷ [])
 abbrev pub house_decimals : {T : Type 0} → House T → List T
 house_decimals x = x.m ∷ (x.f ∷ (x.n ∷ (x.s ∷ (x.v ∷ (x.l ∷ (x.w ∷ (x.k ∷ [])))))))
 
+abbrev pub age_decimals : {T : Type 0} → Age T → List T
+age_decimals x = x.sa ∷ (x.ef ∷ (x.ed ∷ (x.bw ∷ [])))
+
+abbrev pub ages_decimals : {T : Type 0} → Ages T → List T
+ages_decimals x = age_decimals x.child ++ (age_decimals x.adult ++ (x.af ∷ []))
+
 abbrev pub toxicity_decimals : {T : Type 0} → Toxicity T → List T
 toxicity_decimals x = x.sfo ∷ (x.sfi ∷ (x.sfx ∷ (x.rfdo ∷ (x.rfdi ∷ []))))
 
 abbrev pub transfer_decimals : {T : Type 0} → Transfer T → List T
 transfer_decimals x = x.vf ∷ (x.pc ∷ [])
 
--- ---- a scenario, and a contaminant: what its formulas name, then the others
+-- ---- a scenario
 abbrev pub scenario_decimals : Scenario → List Decimal
-scenario_decimals s = exposure_decimals s.exposure ++ (contact_decimals s.contact ++ (target_decimals s.targets ++ house_decimals s.house))
+scenario_decimals s =
+    exposure_decimals s.exposure ++ (contact_decimals s.contact ++ (target_decimals s.targets ++ (house_decimals s.house ++ ages_decimals s.ages)))
+
+-- ---- a contaminant: all of its decimals, and those that a formula names
+abbrev pub contaminant_decimals : Contaminant → List Decimal
+contaminant_decimals r = toxicity_decimals r.toxicity ++ (transfer_decimals r.transfer ++ (r.c ∷ (r.saturation ∷ (r.abs ∷ []))))
 
 abbrev pub formula_decimals : Contaminant → List Decimal
-formula_decimals r = toxicity_decimals r.toxicity ++ transfer_decimals r.transfer
-
--- what no formula names
-abbrev pub other_decimals : Contaminant → List Decimal
-other_decimals r = r.c ∷ (r.saturation ∷ [])
-
-abbrev pub contaminant_decimals : Contaminant → List Decimal
-contaminant_decimals r = formula_decimals r ++ other_decimals r
+formula_decimals r = toxicity_decimals r.toxicity ++ (transfer_decimals r.transfer ++ (r.abs ∷ []))
 
 -- how many they are
 abbrev pub scenario_places : ℕ
-scenario_places = 20
+scenario_places = 29
 
 abbrev pub contaminant_places : ℕ
-contaminant_places = 9
+contaminant_places = 10
 
 -- ---- out of such a list
 abbrev nth : List Decimal → ℕ → Decimal
@@ -67,6 +73,12 @@ targets_of l = record { tr = nth l 0; thi = nth l 1 }
 unfoldable pub house_of : List Decimal → House Decimal
 house_of l = record { m = nth l 0; f = nth l 1; n = nth l 2; s = nth l 3; v = nth l 4; l = nth l 5; w = nth l 6; k = nth l 7 }
 
+unfoldable pub age_of : List Decimal → Age Decimal
+age_of l = record { sa = nth l 0; ef = nth l 1; ed = nth l 2; bw = nth l 3 }
+
+unfoldable pub ages_of : List Decimal → Ages Decimal
+ages_of l = record { child = age_of l; adult = age_of (drop 4 l); af = nth l 8 }
+
 unfoldable pub toxicity_of : List Decimal → Toxicity Decimal
 toxicity_of l = record { sfo = nth l 0; sfi = nth l 1; sfx = nth l 2; rfdo = nth l 3; rfdi = nth l 4 }
 
@@ -74,7 +86,21 @@ unfoldable pub transfer_of : List Decimal → Transfer Decimal
 transfer_of l = record { vf = nth l 0; pc = nth l 1 }
 
 unfoldable pub scenario_of : List Decimal → Scenario
-scenario_of l = record { exposure = exposure_of l; contact = contact_of (drop 4 l); targets = targets_of (drop 10 l); house = house_of (drop 12 l) }
+scenario_of l = record {
+  exposure = exposure_of l;
+  contact = contact_of (drop 4 l);
+  targets = targets_of (drop 10 l);
+  house = house_of (drop 12 l);
+  ages = ages_of (drop 20 l);
+}
 
 unfoldable pub contaminant_of : ℕ → ℕ → List Decimal → Contaminant
-contaminant_of class id l = record { class = class; id = id; toxicity = toxicity_of l; transfer = transfer_of (drop 5 l); c = nth l 7; saturation = nth l 8 }
+contaminant_of class id l = record {
+  class = class;
+  id = id;
+  toxicity = toxicity_of l;
+  transfer = transfer_of (drop 5 l);
+  c = nth l 7;
+  saturation = nth l 8;
+  abs = nth l 9;
+}

@@ -1,7 +1,7 @@
 // The decimals of a scenario and of a contaminant in groups, each a struct and an array. Zero means not known, or not part of this
 // scenario, in every decimal.
 ghost use Rattle.std.specs.Prelude.{◌≡◌};
-ghost use Rattle.inputs.specs.Inputs.{exposure_decimals, contact_decimals, target_decimals, house_decimals, toxicity_decimals, transfer_decimals};
+ghost use Rattle.inputs.specs.Inputs.{exposure_decimals, contact_decimals, target_decimals, house_decimals, ages_decimals, toxicity_decimals, transfer_decimals};
 
 // How often and how long, and of whom: exposure frequency, days per year; exposure duration, years; body weight, kg;
 // averaging time, years.
@@ -45,6 +45,23 @@ pub struct House<T> {
     pub l: T,
     pub w: T,
     pub k: T,
+}
+
+// Of a child or of an adult: skin that meets soil, cm²; how often and how long, days per year and years; body weight, kg.
+#[derive(Clone, Copy)]
+pub struct Age<T> {
+    pub sa: T,
+    pub ef: T,
+    pub ed: T,
+    pub bw: T,
+}
+
+// Soil on skin: the child, the adult, and the adherence of soil to skin, mg/cm².
+#[derive(Clone, Copy)]
+pub struct Ages<T> {
+    pub child: Age<T>,
+    pub adult: Age<T>,
+    pub af: T,
 }
 
 // Slope factors, oral, inhaled and external; reference doses, oral and inhaled.
@@ -146,6 +163,32 @@ impl<T: Copy> From<House<T>> for [T; 8] {
 
     fn from(x: House<T>) -> [T; 8] {
         [x.m, x.f, x.n, x.s, x.v, x.l, x.w, x.k]
+    }
+}
+
+impl<T: Copy> From<[T; 9]> for Ages<T> {
+    ghost from_gives = { λ l x. ages_decimals x ≡ l };
+
+    fn from(values: [T; 9]) -> Ages<T> {
+        let [sa, ef, ed, bw, adult_sa, adult_ef, adult_ed, adult_bw, af] = values;
+        let child = Age { sa, ef, ed, bw };
+        let adult = Age {
+            sa: adult_sa,
+            ef: adult_ef,
+            ed: adult_ed,
+            bw: adult_bw,
+        };
+        Ages { child, adult, af }
+    }
+}
+
+impl<T: Copy> From<Ages<T>> for [T; 9] {
+    ghost from_gives = { λ x l. l ≡ ages_decimals x };
+
+    fn from(x: Ages<T>) -> [T; 9] {
+        let Age { sa, ef, ed, bw } = x.child;
+        let a = x.adult;
+        [sa, ef, ed, bw, a.sa, a.ef, a.ed, a.bw, x.af]
     }
 }
 

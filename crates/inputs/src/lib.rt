@@ -13,7 +13,7 @@ ghost use Rattle.inputs.specs.Valid.{valid_of, all_valid};
 
 use decimal::Decimal;
 pub use earlier::Earlier;
-pub use groups::{Contact, Exposure, House, Targets, Toxicity, Transfer};
+pub use groups::{Age, Ages, Contact, Exposure, House, Targets, Toxicity, Transfer};
 pub use kind::{CHEMICAL, Class, Medium, SOIL};
 use kind::{MOST_CLASS, MOST_MEDIUM, TRITIUM};
 use outcome::{Refusal, Refused};
@@ -34,6 +34,20 @@ const NO_HOUSE: House<Decimal> = House {
     k: Decimal::ZERO,
 };
 
+// No skin of a child or an adult.
+const NO_AGE: Age<Decimal> = Age {
+    sa: Decimal::ZERO,
+    ef: Decimal::ZERO,
+    ed: Decimal::ZERO,
+    bw: Decimal::ZERO,
+};
+
+const NO_AGES: Ages<Decimal> = Ages {
+    child: NO_AGE,
+    adult: NO_AGE,
+    af: Decimal::ZERO,
+};
+
 // The exponents -20 and 20 of a file or record.
 const LEAST: u64 = BIAS - 20;
 
@@ -46,10 +60,11 @@ pub struct Scenario {
     pub contact: Contact<Decimal>,
     pub targets: Targets<Decimal>,
     pub house: House<Decimal>,
+    pub ages: Ages<Decimal>,
 }
 
-// A contaminant: its class (1 chemical, 2 radionuclide, 3 tritium), its id, its measured concentration C, and the saturation of
-// soil with it, mg/kg.
+// A contaminant: its class (1 chemical, 2 radionuclide, 3 tritium), its id, its measured concentration C, the saturation of
+// soil with it, mg/kg, and ABS, the fraction that skin absorbs of what soil holds of it.
 #[derive(Clone, Copy)]
 pub struct Contaminant {
     pub class: u32,
@@ -58,6 +73,7 @@ pub struct Contaminant {
     pub transfer: Transfer<Decimal>,
     pub c: Decimal,
     pub saturation: Decimal,
+    pub abs: Decimal,
 }
 
 impl Scenario {
@@ -82,6 +98,7 @@ impl Scenario {
             thi: Decimal { m: 1, e: 0 },
         },
         house: NO_HOUSE,
+        ages: NO_AGES,
     };
 
     // Archeologist (source 004).
@@ -105,6 +122,7 @@ impl Scenario {
             thi: Decimal { m: 1, e: 0 },
         },
         house: NO_HOUSE,
+        ages: NO_AGES,
     };
 
     // Bird watcher (source 004).
@@ -128,6 +146,7 @@ impl Scenario {
             thi: Decimal { m: 1, e: 0 },
         },
         house: NO_HOUSE,
+        ages: NO_AGES,
     };
 
     // The scenario with every decimal zero.
@@ -151,6 +170,7 @@ impl Scenario {
             thi: Decimal::ZERO,
         },
         house: NO_HOUSE,
+        ages: NO_AGES,
     };
 
     // The built-in scenario of a number from 1 to 3; refusal 11 in block 0 for any other number.
@@ -185,6 +205,7 @@ impl Contaminant {
         },
         c: Decimal::ZERO,
         saturation: Decimal::ZERO,
+        abs: Decimal::ZERO,
     };
 }
 
@@ -220,7 +241,8 @@ pub fn valid_scenario(s: Scenario) -> bool
     let contact = all_valid(s.contact.into());
     let targets = all_valid(s.targets.into());
     let house = all_valid(s.house.into());
-    exposure & contact & targets & house
+    let ages = all_valid(s.ages.into());
+    exposure & contact & targets & house & ages
 }
 
 // Whether the decimals of a contaminant keep their rule.
@@ -231,7 +253,8 @@ pub fn valid_contaminant(r: Contaminant) -> bool
     let transfer = all_valid(r.transfer.into());
     let c = valid(r.c);
     let saturation = valid(r.saturation);
-    toxicity & transfer & c & saturation
+    let abs = valid(r.abs);
+    toxicity & transfer & c & saturation & abs
 }
 
 // Whether a number is from 1 to so many: a medium, or a class.
