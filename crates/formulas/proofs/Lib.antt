@@ -4,4 +4,4 @@ pub mod ValueBounds
 pub mod InRange
 pub mod OnTheWay
 pub mod Presence
-pub mod HoursFigures
+pub mod DerivedFigures

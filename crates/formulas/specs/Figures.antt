@@ -1,5 +1,5 @@
--- The example of tritium (docs/SPECIFICATION.md, "Checked figures"), and what H comes to there: in each direction, without ET, and with a zero
--- factor in its second part.
+-- The examples of tritium and of soil on skin (docs/SPECIFICATION.md, "Checked figures"), and what H and G come to there: in each direction, and with
+-- a zero factor in one part or in both.
 use Rattle.std.specs.Prelude.{List, [], ◌∷◌, pos, negsuc}
 use Rattle.rounding.specs.declared.Direction.{Direction}
 use Rattle.rounding.specs.declared.Direction.TheVariants.{Down, Up}
@@ -8,7 +8,8 @@ use Rattle.decimal.specs.Decimal.{zero_of}
 use Rattle.decimal.specs.Figures.{Figure, dec, ◌is◌}
 use Rattle.inputs.specs.declared.Scenario.{Scenario}
 use Rattle.inputs.specs.declared.Contaminant.{Contaminant}
-use Rattle.formulas.specs.Formula.{H}
+use Rattle.inputs.specs.BuiltIn.{office, no_ages}
+use Rattle.formulas.specs.Formula.{H, G}
 use Rattle.formulas.specs.Term.{look, values_for}
 
 -- a resident with a house (002, Table 1.2.3), with these ET and N; and tritium
@@ -27,6 +28,7 @@ resident_with et n = record {
     w = dec 272 (pos 0);
     k = dec 15 (negsuc 5);
   };
+  ages = no_ages;
 }
 
 abbrev pub resident : Scenario
@@ -40,6 +42,7 @@ tritium = record {
   transfer = record { vf = zero_of; pc = zero_of };
   c = dec 500 (pos 0);
   saturation = zero_of;
+  abs = zero_of;
 }
 
 abbrev hours : Direction → Scenario → Decimal
@@ -52,3 +55,32 @@ hours_figures =
     (hours Up (resident_with zero_of (dec 4 (pos 0))) is dec 999040921 (negsuc 9)) ∷
     (hours Up (resident_with (dec 167 (negsuc 2)) zero_of) is dec 167000000 (negsuc 8)) ∷
     (hours Up (resident_with zero_of zero_of) is zero_of) ∷ []
+
+-- the office worker's soil on skin (004, A-4.1), with these body weights of the child and of the adult
+abbrev office_with : Decimal → Decimal → Scenario
+office_with child adult = record {
+  exposure = office.exposure;
+  contact = office.contact;
+  targets = office.targets;
+  house = office.house;
+  ages = record {
+    child = record { sa = dec 2000 (pos 0); ef = dec 350 (pos 0); ed = dec 6 (pos 0); bw = child };
+    adult = record { sa = dec 5000 (pos 0); ef = dec 350 (pos 0); ed = dec 24 (pos 0); bw = adult };
+    af = dec 2 (negsuc 0);
+  };
+}
+
+abbrev pub office_on_skin : Scenario
+office_on_skin = office_with (dec 15 (pos 0)) (dec 70 (pos 0))
+
+abbrev both_ages : Direction → Decimal → Decimal → Decimal
+both_ages dir child adult = look (values_for dir (office_with child adult) tritium) G
+
+unfoldable pub ages_figures : List Figure
+ages_figures =
+    (both_ages Up (dec 15 (pos 0)) (dec 70 (pos 0)) is dec 880000000 (negsuc 2)) ∷
+    (both_ages Up (dec 13 (pos 0)) (dec 72 (pos 0)) is dec 906410258 (negsuc 2)) ∷
+    (both_ages Down (dec 13 (pos 0)) (dec 72 (pos 0)) is dec 906410256 (negsuc 2)) ∷
+    (both_ages Up zero_of (dec 70 (pos 0)) is dec 600000000 (negsuc 2)) ∷
+    (both_ages Up (dec 15 (pos 0)) zero_of is dec 280000000 (negsuc 2)) ∷
+    (both_ages Up zero_of zero_of is zero_of) ∷ []

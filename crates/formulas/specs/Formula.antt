@@ -10,8 +10,11 @@ B = 0
 abbrev pub H : ℕ
 H = 1
 
+abbrev pub G : ℕ
+G = 2
+
 abbrev pub derived_places : ℕ
-derived_places = 2
+derived_places = 3
 
 -- constants: 1, 10^-6, 10^-3, 0.5, 0.000114, 365 and 10^3
 abbrev pub One : ℕ
@@ -94,6 +97,34 @@ W = scenario_first + 18
 abbrev pub K : ℕ
 K = scenario_first + 19
 
+-- soil on skin: of the child, of the adult, and the adherence
+abbrev pub ChildSA : ℕ
+ChildSA = scenario_first + 20
+
+abbrev pub ChildEF : ℕ
+ChildEF = scenario_first + 21
+
+abbrev pub ChildED : ℕ
+ChildED = scenario_first + 22
+
+abbrev pub ChildBW : ℕ
+ChildBW = scenario_first + 23
+
+abbrev pub AdultSA : ℕ
+AdultSA = scenario_first + 24
+
+abbrev pub AdultEF : ℕ
+AdultEF = scenario_first + 25
+
+abbrev pub AdultED : ℕ
+AdultED = scenario_first + 26
+
+abbrev pub AdultBW : ℕ
+AdultBW = scenario_first + 27
+
+abbrev pub AF : ℕ
+AF = scenario_first + 28
+
 abbrev contaminant_first : ℕ
 contaminant_first = scenario_first + scenario_places
 
@@ -118,6 +149,9 @@ VF = contaminant_first + 5
 
 abbrev pub PC : ℕ
 PC = contaminant_first + 6
+
+abbrev pub ABS : ℕ
+ABS = contaminant_first + 7
 
 pub record Formula : Type 0 where
   pub before : List ℕ
@@ -150,11 +184,11 @@ table =
       risk =
           ((SFo ∷ IR ∷ Millionth ∷ EF ∷ ED ∷ []) ÷ (BW ∷ AT ∷ Days ∷ [])) ∷
           ((SFi ∷ IRA ∷ B ∷ EF ∷ ED ∷ []) ÷ (BW ∷ AT ∷ Days ∷ [])) ∷
-          none ∷ [];
+          ((SFo ∷ ABS ∷ AF ∷ Millionth ∷ G ∷ []) ÷ (AT ∷ Days ∷ [])) ∷ [];
       hazard =
           ((IR ∷ Millionth ∷ EF ∷ []) ÷ (RfDo ∷ BW ∷ Days ∷ [])) ∷
           ((IRA ∷ B ∷ EF ∷ []) ÷ (RfDi ∷ BW ∷ Days ∷ [])) ∷
-          none ∷ [];
+          ((ABS ∷ AF ∷ Millionth ∷ G ∷ []) ÷ (RfDo ∷ ED ∷ Days ∷ [])) ∷ [];
     } ∷
     -- soil, radionuclide
     record {
@@ -212,8 +246,10 @@ row_of (x ∷ xs) medium class side = cond (is_row x medium class) (formulas_of 
 unfoldable pub pathways_of : ℕ → ℕ → Side → List Formula
 pathways_of medium class side = row_of table medium class side
 
--- ---- the factors that are worked out, each as the formulas that are added up: B = 1/VF + 1/PEF, H = ET + (F, N, S, V / L, W)
+-- ---- the factors that are worked out, each as the formulas that are added up: B = 1/VF + 1/PEF, H = ET + (F, N, S, V / L, W),
+-- and G = (SA, EF, ED / BW) of the child + the same of the adult
 unfoldable pub derived : List (List Formula)
 derived =
     (((One ∷ []) ÷ (VF ∷ [])) ∷ ((One ∷ []) ÷ (PEF ∷ [])) ∷ []) ∷
-    (((ET ∷ []) ÷ []) ∷ ((F ∷ N ∷ S ∷ Vol ∷ []) ÷ (L ∷ W ∷ [])) ∷ []) ∷ []
+    (((ET ∷ []) ÷ []) ∷ ((F ∷ N ∷ S ∷ Vol ∷ []) ÷ (L ∷ W ∷ [])) ∷ []) ∷
+    (((ChildSA ∷ ChildEF ∷ ChildED ∷ []) ÷ (ChildBW ∷ [])) ∷ ((AdultSA ∷ AdultEF ∷ AdultED ∷ []) ÷ (AdultBW ∷ [])) ∷ []) ∷ []

@@ -20,7 +20,7 @@ formula_steps vs dir f = product_steps dir (map (look vs) f.before) ++ (product_
 abbrev pub total_steps : List Decimal → Direction → List Formula → List Decimal
 total_steps vs dir fs = flat_map (formula_steps vs dir) fs ++ summed_steps dir zero_of (map (term_of vs dir) fs)
 
--- the factors that are worked out, as B and H with their parts; every value that a name stands for; the terms and their sum
+-- the factors that are worked out, as B, H and G with their parts; every value that a name stands for; the terms and their sum
 unfoldable pub steps_for : Direction → Scenario → ℕ → Contaminant → Side → List Decimal
 steps_for dir s medium r side =
     flat_map (total_steps (plain_values (inputs_of s r)) dir) derived ++ (values_for dir s r ++ total_steps (values_for dir s r) dir (formulas_for s medium r side))
