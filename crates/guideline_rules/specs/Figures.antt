@@ -1,5 +1,5 @@
--- The marked figures (docs/SPECIFICATION.md, "Checked figures") as one table: those about decimals, those of the office worker in soil, and those of
--- tritium in water.
+-- The marked figures (docs/SPECIFICATION.md, "Checked figures") as one table: those about decimals, those of the office worker in soil, those of
+-- tritium in water, those of a saturation, and those of soil on skin.
 use Rattle.std.specs.Prelude.{List, [], ◌∷◌, ◌++◌, get_or, pos, negsuc}
 use Rattle.rounding.specs.declared.Direction.TheVariants.{Up}
 use Rattle.decimal.specs.declared.Decimal.{Decimal}
@@ -10,19 +10,23 @@ use Rattle.inputs.specs.BuiltIn.{office}
 use Rattle.formulas.specs.Side.{Risk}
 use Rattle.formulas.specs.Formula.{none}
 use Rattle.formulas.specs.Term.{term_of, formulas_for, values_for}
-use Rattle.formulas.specs.Figures.{resident, tritium}
+use Rattle.formulas.specs.Figures.{resident, tritium, office_on_skin}
 use Rattle.guideline_rules.specs.Guideline.{guidelines_sent, guideline_of}
 
--- a chemical with SFo 1, RfDo 0.02 and a concentration, all else zero
-abbrev pub sample : Decimal → Contaminant
-sample c = record {
+-- a chemical with SFo 1, RfDo 0.02, a concentration and ABS, all else zero
+abbrev sample_of : Decimal → Decimal → Contaminant
+sample_of c abs = record {
   class = 1;
   id = 1;
   toxicity = record { sfo = dec 1 (pos 0); sfi = zero_of; sfx = zero_of; rfdo = dec 2 (negsuc 1); rfdi = zero_of };
   transfer = record { vf = zero_of; pc = zero_of };
   c = c;
   saturation = zero_of;
+  abs = abs;
 }
+
+abbrev pub sample : Decimal → Contaminant
+sample c = sample_of c zero_of
 
 abbrev pub chemical : Contaminant
 chemical = sample zero_of
@@ -52,6 +56,7 @@ solvent saturation = record {
   transfer = record { vf = dec 19000 (pos 0); pc = zero_of };
   c = zero_of;
   saturation = saturation;
+  abs = zero_of;
 }
 
 -- its guidelines for inhalation and its totals, of risk and of hazard, in soil
@@ -67,5 +72,14 @@ saturation_figures =
     (saturation_row (dec 50 (pos 0)) (dec 937416517 (negsuc 7)) (dec 500000000 (negsuc 6)) ++
     saturation_row (dec 5 (negsuc 0)) (dec 500000000 (negsuc 8)) (dec 500000000 (negsuc 8)))
 
+-- the sample with ABS 0.1, where the scenario has soil on skin: the pathways and the total, of risk and of hazard
+unfoldable pub skin_figures : List Figure
+skin_figures =
+    let g = guidelines_sent (guideline_of office_on_skin 1 (sample_of zero_of (dec 1 (negsuc 0)))) in
+    (g.risk.first is dec 572319997 (negsuc 7)) ∷ (g.risk.second is zero_of) ∷ (g.risk.third is dec 145170454 (negsuc 7)) ∷
+    (g.risk.total is dec 115797992 (negsuc 7)) ∷
+    (g.hazard.first is dec 408799998 (negsuc 3)) ∷ (g.hazard.second is zero_of) ∷ (g.hazard.third is dec 103693181 (negsuc 3)) ∷
+    (g.hazard.total is dec 827128518 (negsuc 4)) ∷ []
+
 abbrev pub marked_figures : List Figure
-marked_figures = figures ++ (office_figures ++ (tritium_figures ++ saturation_figures))
+marked_figures = figures ++ (office_figures ++ (tritium_figures ++ (saturation_figures ++ skin_figures)))

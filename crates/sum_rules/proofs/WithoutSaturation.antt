@@ -5,17 +5,15 @@ use mathlib.Core.List.{List, [], ◌∷◌, map}
 use Prim.Native.Nat.{ℕ, ◌+◌}
 use lib.ListN.{length, length-map}
 use Rattle.std.specs.Prelude.{Result}
-use Rattle.decimal.specs.Decimal.{zero_of}
 use Rattle.outcome.specs.declared.Refused.{Refused}
 use Rattle.outcome.specs.Outcome.{passing}
 use Rattle.inputs.specs.declared.Scenario.{Scenario}
 use Rattle.inputs.specs.declared.Contaminant.{Contaminant}
 use Rattle.inputs.specs.declared.earlier.Earlier.{Earlier}
 use Rattle.inputs.specs.Earlier.{none_before, before_next}
-use Rattle.inputs.specs.Inputs.{formula_decimals}
 use Rattle.inputs.specs.Valid.{valid_of, all_valid}
 use Rattle.inputs.specs.Rules.{contaminant_fits}
-use Rattle.inputs.proofs.Tests.{and_split, valid_join}
+use Rattle.inputs.proofs.Tests.{and_split}
 use Rattle.formulas.specs.Side.{Risk, Hazard}
 use Rattle.guideline_rules.specs.Pathway.{has_pathway, record_refusal}
 use Rattle.guideline_rules.specs.Saturation.{without_saturation}
@@ -26,7 +24,7 @@ use Rattle.sum_rules.specs.ListCall.{first_refusal, walk, sums_of}
 -- where the saturation keeps its rule, the record keeps its rules with and without it
 fits_without : (r : Contaminant) → valid_of r.saturation ≡ true → contaminant_fits (without_saturation r) ≡ contaminant_fits r
 unfolding valid_of
-fits_without r h = rw (valid_join (formula_decimals r) (r.c ∷ (zero_of ∷ [])), valid_join (formula_decimals r) (r.c ∷ (r.saturation ∷ [])), h) refl
+fits_without r h = rw h refl
 
 module _ (s : Scenario) (medium : ℕ) where
   walk_same : (rs : List Contaminant) (n : ℕ) (before : Earlier) (a b : Running) → all_valid (map (λ (r : Contaminant). r.saturation) rs) ≡ true →
