@@ -4,11 +4,12 @@ use Rattle.rounding.specs.Sizes.{ten_digits, bias}
 use Rattle.rounding.specs.declared.Direction.{Direction}
 use Rattle.rounding.specs.declared.Number.{Number}
 use Rattle.rounding.specs.Direction.{opposite}
-use Rattle.factors.specs.Widths.{two_width, three_width, hours_width, middle_width}
+use Rattle.factors.specs.Widths.{two_width, three_width, hours_width, ages_width, middle_width}
 use Rattle.decimal.specs.declared.Decimal.{Decimal}
 use Rattle.decimal.specs.Decimal.{decimal_of, add_of, div_of, working_of}
 use Rattle.decimal.specs.Lists.{product_of}
-use Rattle.inputs.specs.declared.kind.Medium.TheVariants.{Water}
+use Rattle.inputs.specs.declared.groups.Age.{Age}
+use Rattle.inputs.specs.declared.kind.Medium.TheVariants.{Soil, Water}
 use Rattle.inputs.specs.Kinds.{medium_number}
 use Rattle.factors.specs.declared.numbers.Factors.{Factors}
 use Rattle.factors.specs.declared.prepared.Prepared.{Prepared}
@@ -53,7 +54,18 @@ hours_of dir f = add_of (decimal_of f.contact.et) (shower_of dir f) dir
 abbrev pub HoursFor : Direction → ℕ → Factors → Number → Type 0
 HoursFor dir medium f h = medium ≡ medium_number Water → Stands hours_width h (hours_of dir f)
 
--- p holds the products of the factors f in a direction, and H for a medium
+-- G = SA, EF, ED / BW of the child + the same of the adult
+abbrev pub one_age : Direction → Age Number → Decimal
+one_age dir x = div_of (product_of dir (decimal_of x.sa ∷ decimal_of x.ef ∷ decimal_of x.ed ∷ [])) (product_of (opposite dir) (decimal_of x.bw ∷ [])) dir
+
+abbrev pub both_ages : Direction → Factors → Decimal
+both_ages dir f = add_of (one_age dir f.ages.child) (one_age dir f.ages.adult) dir
+
+-- g is G in soil, where a record may need it
+abbrev pub AgesFor : Direction → ℕ → Factors → Number → Type 0
+AgesFor dir medium f g = medium ≡ medium_number Soil → Stands ages_width g (both_ages dir f)
+
+-- p holds the products of the factors f in a direction, and H and G for a medium
 pub record PreparedFor (dir : Direction) (medium : ℕ) (f : Factors) (p : Prepared) : Type 0 where
   pub lifetime : Stands three_width p.lifetime (product_of (opposite dir) (decimal_of f.exposure.bw ∷ decimal_of f.exposure.at ∷ days ∷ []))
   pub soil_intake : Stands three_width p.soil_intake (product_of dir (decimal_of f.contact.ir ∷ millionth ∷ decimal_of f.exposure.ef ∷ []))
@@ -61,3 +73,5 @@ pub record PreparedFor (dir : Direction) (medium : ℕ) (f : Factors) (p : Prepa
   pub vapour_intake : Stands three_width p.vapour_intake (product_of dir (decimal_of f.contact.ira ∷ half ∷ decimal_of f.exposure.ef ∷ []))
   pub inverse_pef : Stands two_width p.inverse_pef (div_of unit (decimal_of f.contact.pef) dir)
   pub hours : HoursFor dir medium f p.hours
+  pub ages : AgesFor dir medium f p.ages
+  pub averaging : Stands two_width p.averaging (product_of (opposite dir) (decimal_of f.exposure.at ∷ days ∷ []))

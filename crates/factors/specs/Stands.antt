@@ -8,7 +8,7 @@ use Rattle.decimal.specs.declared.Decimal.{Decimal}
 use Rattle.decimal.specs.Decimal.{decimal_of, working_of}
 use Rattle.inputs.specs.declared.Scenario.{Scenario}
 use Rattle.inputs.specs.declared.Contaminant.{Contaminant}
-use Rattle.inputs.specs.Inputs.{exposure_decimals, contact_decimals, target_decimals, house_decimals, toxicity_decimals, transfer_decimals, scenario_decimals, formula_decimals}
+use Rattle.inputs.specs.Inputs.{exposure_decimals, contact_decimals, target_decimals, house_decimals, ages_decimals, toxicity_decimals, transfer_decimals, scenario_decimals, formula_decimals}
 use Rattle.factors.specs.declared.numbers.Factors.{Factors}
 use Rattle.factors.specs.declared.numbers.ContaminantNumbers.{ContaminantNumbers}
 
@@ -31,10 +31,11 @@ pub data StandAll : List Number → List Decimal → Type 0 where
 
 -- ---- the numbers as a list, in the order of their decimals
 abbrev pub factor_numbers : Factors → List Number
-factor_numbers f = exposure_decimals f.exposure ++ (contact_decimals f.contact ++ (target_decimals f.targets ++ house_decimals f.house))
+factor_numbers f =
+    exposure_decimals f.exposure ++ (contact_decimals f.contact ++ (target_decimals f.targets ++ (house_decimals f.house ++ ages_decimals f.ages)))
 
 abbrev pub contaminant_numbers : ContaminantNumbers → List Number
-contaminant_numbers t = toxicity_decimals t.toxicity ++ transfer_decimals t.transfer
+contaminant_numbers t = toxicity_decimals t.toxicity ++ (transfer_decimals t.transfer ++ (t.abs ∷ []))
 
 -- ---- the numbers of an input's decimals
 abbrev pub FactorsFor : Scenario → Factors → Type 0

@@ -24,6 +24,13 @@ shower_width = four_width + two_width + 1
 abbrev pub hours_width : ℕ
 hours_width = shower_width + 1
 
+-- G: a part, a product of three over an input, and the sum of both
+abbrev pub age_width : ℕ
+age_width = three_width + input_width + 1
+
+abbrev pub ages_width : ℕ
+ages_width = age_width + 1
+
 -- what may be multiplied twice
 abbrev pub middle_width : ℕ
 middle_width = 300

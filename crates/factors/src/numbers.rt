@@ -7,7 +7,7 @@ ghost use Rattle.inputs.specs.Valid.{valid_of, all_valid};
 ghost use Rattle.factors.specs.Stands.{Stands, StandAll, FactorsFor, NumbersFor};
 
 use decimal::Decimal;
-use inputs::{Contact, Contaminant, Exposure, House, Scenario, Targets, Toxicity, Transfer};
+use inputs::{Ages, Contact, Contaminant, Exposure, House, Scenario, Targets, Toxicity, Transfer};
 use rounding::Number;
 
 // The factors of a scenario.
@@ -17,13 +17,15 @@ pub struct Factors {
     pub contact: Contact<Number>,
     pub targets: Targets<Number>,
     pub house: House<Number>,
+    pub ages: Ages<Number>,
 }
 
-// The decimals of a contaminant that a formula names: all but its concentration.
+// The decimals of a contaminant that a formula names: all but its concentration and its saturation.
 #[derive(Clone, Copy)]
 pub struct ContaminantNumbers {
     pub toxicity: Toxicity<Number>,
     pub transfer: Transfer<Number>,
+    pub abs: Number,
 }
 
 // The number of a decimal that keeps its rule.
@@ -54,6 +56,7 @@ pub fn scenario_numbers(s: Scenario) -> Factors
         contact: numbers_of(s.contact.into()).into(),
         targets: numbers_of(s.targets.into()).into(),
         house: numbers_of(s.house.into()).into(),
+        ages: numbers_of(s.ages.into()).into(),
     }
 }
 
@@ -64,5 +67,6 @@ pub fn contaminant_numbers(r: Contaminant) -> ContaminantNumbers
     ContaminantNumbers {
         toxicity: numbers_of(r.toxicity.into()).into(),
         transfer: numbers_of(r.transfer.into()).into(),
+        abs: number_of(r.abs),
     }
 }

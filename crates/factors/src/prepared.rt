@@ -2,11 +2,13 @@
 ghost use Rattle.std.specs.Prelude.{◌≡◌};
 ghost use Rattle.rounding.specs.Operations.{product_of};
 ghost use Rattle.inputs.specs.Kinds.{medium_number};
-ghost use Rattle.factors.specs.Stands.{ReadyFactors};
-ghost use Rattle.factors.specs.Prepared.{Middle, Product3, HoursFor, PreparedFor};
+ghost use Rattle.inputs.specs.Inputs.{age_decimals};
+ghost use Rattle.factors.specs.Widths.{age_width};
+ghost use Rattle.factors.specs.Stands.{Stands, Inputs, ReadyFactors};
+ghost use Rattle.factors.specs.Prepared.{Middle, Product3, HoursFor, one_age, AgesFor, PreparedFor};
 
 use crate::numbers::Factors;
-use inputs::Medium;
+use inputs::{Age, Medium};
 use rounding::{BIAS, Direction, NINE_DIGITS, Number};
 
 // The constants 1, 10^-6, 0.5 and 365.
@@ -31,7 +33,8 @@ pub const DAYS: Number = Number {
 };
 
 // Of a scenario's factors in a direction: the divisor BW, AT, 365 of every risk term of a chemical (rounded the other way);
-// the dividends of hazard by ingestion of soil, of water and by vapour; 1 / PEF; and H, where the medium is water.
+// the dividends of hazard by ingestion of soil, of water and by vapour; 1 / PEF; H, where the medium is water; where it is soil G; and
+// the divisor AT, 365 of risk by soil on skin.
 #[derive(Clone, Copy)]
 pub struct Prepared {
     pub lifetime: Number,
@@ -40,6 +43,8 @@ pub struct Prepared {
     pub vapour_intake: Number,
     pub inverse_pef: Number,
     pub hours: Number,
+    pub ages: Number,
+    pub averaging: Number,
 }
 
 // a * b * c, from the left.
@@ -69,6 +74,30 @@ fn hours(f: &Factors, medium: Medium, dir: Direction) -> Number
     et.add(shower.div(air, dir), dir)
 }
 
+// SA, EF, ED / BW of an age. Without SA it adds nothing, and nothing is worked out.
+fn one_age(x: Age<Number>, dir: Direction) -> Number
+    requires { Inputs (age_decimals x) }
+    ensures { Stands age_width result (one_age dir x) }
+{
+    if x.sa.m == 0 {
+        return Number::ZERO;
+    }
+    product3(x.sa, x.ef, x.ed, dir).div(x.bw, dir)
+}
+
+// G, the child's and the adult's, in soil; in water no record needs G.
+fn ages(f: &Factors, medium: Medium, dir: Direction) -> Number
+    requires { ReadyFactors f.now }
+    ensures { AgesFor dir (medium_number medium) f.now result }
+{
+    if matches!(medium, Medium::Water) {
+        return Number::ZERO;
+    }
+    let child = one_age(f.ages.child, dir);
+    let adult = one_age(f.ages.adult, dir);
+    child.add(adult, dir)
+}
+
 // What a scenario gives in a medium and a direction.
 pub fn prepare(f: &Factors, medium: Medium, dir: Direction) -> Prepared
     requires { ReadyFactors f.now }
@@ -80,6 +109,8 @@ pub fn prepare(f: &Factors, medium: Medium, dir: Direction) -> Prepared
     let vapour_intake = product3(f.contact.ira, HALF, f.exposure.ef, dir);
     let inverse_pef = ONE.div(f.contact.pef, dir);
     let hours = hours(f, medium, dir);
+    let ages = ages(f, medium, dir);
+    let averaging = f.exposure.at.mul(DAYS, dir.opposite());
     Prepared {
         lifetime,
         soil_intake,
@@ -87,5 +118,7 @@ pub fn prepare(f: &Factors, medium: Medium, dir: Direction) -> Prepared
         vapour_intake,
         inverse_pef,
         hours,
+        ages,
+        averaging,
     }
 }

@@ -30,6 +30,11 @@ div-inverse_pef-requires c =
     let factor = stands_at c.requires in
     ((stands_operand (lit≤ tt) unit_stands).range, (stands_operand (lit≤ tt) (factor PEF)).range)
 
+pub mul-averaging-requires : goal.mul-averaging-requires
+mul-averaging-requires c =
+    let factor = stands_at c.requires in
+    ((stands_operand (lit≤ tt) (factor AT)).range, (stands_operand (lit≤ tt) days_stands).range)
+
 pub returns : goal.returns
 returns c =
     let dir = c.args.dir in
@@ -41,4 +46,6 @@ returns c =
       vapour_intake = stands_mul3 dir (factor IRA) half_stands (factor EF) (lit≤ tt) c.product3-vapour_intake.ensures.0;
       inverse_pef = stands_div dir unit_stands (factor PEF) (lit≤ tt) c.div-inverse_pef.ensures.0;
       hours = c.hours-hours.ensures;
+      ages = c.ages-ages.ensures;
+      averaging = rw (← c.opposite-2.ensures) (stands_mul c.opposite-2.result (factor AT) days_stands (lit≤ tt) c.mul-averaging.ensures.0);
     }
