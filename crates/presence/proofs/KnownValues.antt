@@ -13,6 +13,7 @@ use Rattle.decimal.specs.Fraction.{Fraction}
 use Rattle.decimal.specs.Decimal.{zero_of, working_of}
 use Rattle.decimal.proofs.Approximation.{fair_zero, given_zero, working_fair}
 use Rattle.decimal.proofs.Ranges.{covers}
+use Rattle.inputs.specs.declared.groups.Age.{Age}
 use Rattle.inputs.specs.declared.Scenario.{Scenario}
 use Rattle.inputs.specs.declared.Contaminant.{Contaminant}
 use Rattle.inputs.specs.Valid.{valid_of, all_valid}
@@ -29,7 +30,7 @@ use Rattle.formulas.proofs.ValueBounds.{plain_stand}
 use Rattle.guideline_rules.proofs.Accepted.{Accepted, inputs_valid, accepted_inputs}
 use Rattle.guideline_rules.specs.Pathway.{any_pathway, has_pathway, either_side}
 use Rattle.guideline_rules.proofs.WorkedOut.{any_same}
-use Rattle.presence.specs.Presence.{known_of, known_inputs, not_yet, known_values, all_known, some_known, either_known, Needed, chemical_of}
+use Rattle.presence.specs.Presence.{known_of, age_known, on_skin, known_inputs, not_yet, known_values, all_known, some_known, either_known, Needed, chemical_of}
 use Rattle.inputs.specs.Rules.{lacks_factor, Checked}
 
 -- ---- the working form of an input is zero exactly when its m is
@@ -60,9 +61,6 @@ or_left_comm a b c = sym (or_assoc a b c) ∙ ap (λ (t : Bool). t || c) (or_com
 ruleset sorted = (and-or_distrib_left, and-or_distrib_right, and_assoc, and_comm, and_left_comm, or_assoc, or_comm, or_left_comm)
 
 module _ (sfo sfi rfdo rfdi : Bool) where
-  two_ways : (a b : Bool) → a && (sfo || rfdo) || b && (sfi || rfdi) ≡ (sfo && a || sfi && b) || (a && rfdo || b && rfdi)
-  two_ways a b = simp sorted
-
   three_ways : (a b c : Bool) → (a || c) && (sfo || rfdo) || b && (sfi || rfdi) ≡ (sfo && a || (sfi && b || sfo && c)) || (a && rfdo || (b && rfdi || c && rfdo))
   three_ways a b c = simp sorted
 
@@ -77,6 +75,16 @@ module _ (vs : List Decimal) (qs : List Fraction) (r : Represents Up vs qs) wher
       (ap not (fair_zero total) ∙ total_present Up vs qs r {K = part_roundings} {W = part_range} (covers refl) fs s ∙ sym (any_same vs qs r fs) ∙ any_known vs fs)
       (parts_known fss e)
 
+-- ---- an age and soil on skin: as the table has them
+abbrev age_as_table : Age Decimal → Bool
+age_as_table x = (known_of x.sa && (known_of x.ef && known_of x.ed)) && known_of x.bw
+
+age_lem : (x : Age Decimal) → age_known x ≡ age_as_table x
+age_lem x = simp and_assoc
+
+abbrev skin_as_table : Scenario → Contaminant → Bool
+skin_as_table s r = known_of r.abs && (known_of s.ages.af && (age_as_table s.ages.child || age_as_table s.ages.adult))
+
 -- ---- what the code tests is what the table asks, where the factors that every term names are known
 module _ (s : Scenario) (r : Contaminant) (h : Needed s) where
   abbrev air : Bool
@@ -89,12 +97,13 @@ module _ (s : Scenario) (r : Contaminant) (h : Needed s) where
   abbrev wet : Bool
   wet = (known_of s.contact.sa && known_of r.transfer.pc) && known_of s.contact.et
 
-  pub soil_chemical_lem : chemical_of r (known_of s.contact.ir) air ≡ either_known (known_values s r) 1 1
+  pub soil_chemical_lem : chemical_of r (known_of s.contact.ir || on_skin s r) air ≡ either_known (known_values s r) 1 1
   unfolding known_values derived pathways_of table
   soil_chemical_lem =
       let x = r.toxicity in
-      rw (h.ef, h.ed, h.bw, h.at)
-      (simp (and-true, or-false) (two_ways (known_of x.sfo) (known_of x.sfi) (known_of x.rfdo) (known_of x.rfdi) (known_of s.contact.ir) air))
+      rw (age_lem s.ages.child, age_lem s.ages.adult, h.ef, h.ed, h.bw, h.at)
+      (simp (and-true, or-false)
+      (three_ways (known_of x.sfo) (known_of x.sfi) (known_of x.rfdo) (known_of x.rfdi) (known_of s.contact.ir) air (skin_as_table s r)))
 
   abbrev ingested : Bool
   ingested = known_of r.toxicity.sfo && known_of s.contact.ir

@@ -1,6 +1,7 @@
 -- Whether a pathway is there, by which decimals are zero alone: no term is worked out.
 use Rattle.std.specs.Prelude.{◌≡◌, Bool, true, false, not, ◌&&◌, ◌||◌, List, [], ◌∷◌, ◌++◌, map, ℕ, eqb, get_or}
 use Rattle.decimal.specs.declared.Decimal.{Decimal}
+use Rattle.inputs.specs.declared.groups.Age.{Age}
 use Rattle.inputs.specs.declared.Scenario.{Scenario}
 use Rattle.inputs.specs.declared.Contaminant.{Contaminant}
 use Rattle.formulas.specs.Side.{Risk, Hazard}
@@ -39,6 +40,13 @@ pub record Needed (s : Scenario) : Type 0 where
   pub ed : known_of s.exposure.ed ≡ true
   pub bw : known_of s.exposure.bw ≡ true
   pub at : known_of s.exposure.at ≡ true
+
+-- an age adds to G, and soil on skin brings a chemical into the body
+abbrev pub age_known : Age Decimal → Bool
+age_known x = known_of x.sa && (known_of x.ef && (known_of x.ed && known_of x.bw))
+
+abbrev pub on_skin : Scenario → Contaminant → Bool
+on_skin s r = known_of r.abs && (known_of s.ages.af && (age_known s.ages.child || age_known s.ages.adult))
 
 -- a chemical, by what is known of the ways into the body: by the dose of each
 abbrev pub chemical_of : Contaminant → Bool → Bool → Bool

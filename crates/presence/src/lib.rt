@@ -3,11 +3,12 @@
 
 ghost use Rattle.std.specs.Prelude.{◌≡◌};
 ghost use Rattle.guideline_rules.specs.Pathway.{record_refusal};
-ghost use Rattle.presence.specs.Presence.{known_values, either_known, chemical_of, Needed};
+ghost use Rattle.presence.specs.Presence.{known_values, either_known, chemical_of, age_known, on_skin, Needed};
 ghost use Rattle.inputs.specs.Rules.{Checked};
 ghost use Rattle.inputs.specs.Kinds.{medium_number, class_number};
 
-use inputs::{Class, Contaminant, Earlier, Medium, Scenario};
+use decimal::Decimal;
+use inputs::{Age, Class, Contaminant, Earlier, Medium, Scenario};
 use outcome::Refusal;
 
 // A chemical, by what is known of the ways into the body: with a slope factor (risk) or a reference dose (hazard).
@@ -17,6 +18,24 @@ fn chemical(r: Contaminant, swallowed: bool, breathed: bool) -> bool
     let oral = (r.toxicity.sfo.m != 0) | (r.toxicity.rfdo.m != 0);
     let inhaled = (r.toxicity.sfi.m != 0) | (r.toxicity.rfdi.m != 0);
     (swallowed & oral) | (breathed & inhaled)
+}
+
+// Whether an age adds to G: none of its factors is zero.
+fn age_known(x: Age<Decimal>) -> bool
+    ensures { result ≡ age_known x }
+{
+    (x.sa.m != 0) & (x.ef.m != 0) & (x.ed.m != 0) & (x.bw.m != 0)
+}
+
+// Whether soil on skin brings a chemical into the body: ABS and the adherence are known, and G by the child or by the adult.
+fn on_skin(s: Scenario, r: Contaminant) -> bool
+    ensures { result ≡ on_skin s r }
+{
+    if r.abs.m == 0 {
+        return false;
+    }
+    let x = s.ages;
+    (x.af.m != 0) & (age_known(x.child) | age_known(x.adult))
 }
 
 // Tritium in water: ingestion, inhalation where H is known, by ET or by the shower, and skin.
@@ -38,7 +57,7 @@ fn tritium(s: Scenario, r: Contaminant) -> bool
 }
 
 // Whether a contaminant has a pathway on either side. In soil: ingestion, inhalation (of a chemical where VF or PEF is
-// known), and of a radionuclide external radiation; in water: ingestion, and of a chemical skin and vapour, of
+// known), of a chemical soil on skin, and of a radionuclide external radiation; in water: ingestion, and of a chemical skin and vapour, of
 // tritium inhalation and skin.
 fn has_pathway(s: Scenario, medium: Medium, class: Class, r: Contaminant) -> bool
     requires { Needed s }
@@ -51,7 +70,7 @@ fn has_pathway(s: Scenario, medium: Medium, class: Class, r: Contaminant) -> boo
     match (class, medium) {
         (Class::Chemical, Medium::Soil) => {
             let air = (r.transfer.vf.m != 0) | (k.pef.m != 0);
-            chemical(r, swallowed, breathed & air)
+            chemical(r, swallowed | on_skin(s, r), breathed & air)
         }
         (Class::Radionuclide, Medium::Soil) => {
             let oral = (x.sfo.m != 0) & swallowed;

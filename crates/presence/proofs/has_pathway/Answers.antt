@@ -4,7 +4,7 @@ use Rattle.presence.proofs.KnownValues.{soil_chemical_lem, soil_radionuclide_lem
 use Rattle.presence.proofs.has_pathway.Goals as goal
 
 pub returns-in-Chemical-Soil : goal.returns-in-Chemical-Soil
-returns-in-Chemical-Soil c = let row = c.in-Chemical-Soil in rw (row.is-0, row.is-1, c.chemical.ensures) (soil_chemical_lem c.args.s c.args.r c.requires)
+returns-in-Chemical-Soil c = let row = c.in-Chemical-Soil in rw (row.is-0, row.is-1, c.chemical.ensures, c.on_skin.ensures) (soil_chemical_lem c.args.s c.args.r c.requires)
 
 pub returns-in-Radionuclide-Soil : goal.returns-in-Radionuclide-Soil
 returns-in-Radionuclide-Soil c = let row = c.in-Radionuclide-Soil in rw (row.is-0, row.is-1) (soil_radionuclide_lem c.args.s c.args.r c.requires)
