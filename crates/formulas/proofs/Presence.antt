@@ -1,8 +1,9 @@
 -- A formula comes to zero exactly when its pathway is absent, so the test of absence changes nothing. Assumes nothing.
 use mathlib.Core.Path.{◌≡◌, refl, sym, ap, ◌∙◌}
-use mathlib.Core.Bool.{Bool, true, false, cond, not, ◌&&◌, and_assoc}
+use mathlib.Core.Bool.{Bool, true, false, cond, not, ◌&&◌, and_assoc, and-false}
 use mathlib.Core.List.{List, [], ◌∷◌, map}
-use Prim.Native.Nat.{ℕ}
+use Prim.Native.Nat.{ℕ, zero, suc, ◌<◌}
+use lib.ListN.{length, get_or}
 use native.Mathlib.Omega.{arith}
 use lib.Dec.{eqb}
 use Rattle.rounding.specs.declared.Direction.{Direction}
@@ -14,7 +15,21 @@ use Rattle.decimal.proofs.Laws.{mul_zero_left, mul_zero_right, div_zero, div_zer
 use Rattle.formulas.specs.Formula.{Formula}
 use Rattle.formulas.specs.Term.{look, known, has_factors, present_of, divided_of, evaluated, term_of}
 
--- a value whose m is zero is (0, 0)
+-- ---- a pathway that is absent has no term, and a zero factor before the stroke makes it absent
+pub absent_term : (vs : List Decimal) (dir : Direction) (f : Formula) → present_of vs f ≡ false → term_of vs dir f ≡ zero_of
+unfolding term_of
+absent_term vs dir f h = rw h refl
+
+one_unknown : (vs : List Decimal) (ns : List ℕ) (i : ℕ) → i < length ns → eqb (look vs (get_or ns i 0)).m 0 ≡ true → known vs ns ≡ false
+one_unknown vs [] i s h = absurd (omega (arith, s))
+one_unknown vs (n ∷ ns) zero s h = rw h refl
+one_unknown vs (n ∷ ns) (suc i) s h = rw (one_unknown vs ns i (omega (arith, s)) h) (and-false _)
+
+pub zero_factor : (vs : List Decimal) (dir : Direction) (f : Formula) (i : ℕ) → i < length f.before → eqb (look vs (get_or f.before i 0)).m 0 ≡ true → term_of vs dir f ≡ zero_of
+unfolding present_of
+zero_factor vs dir f i s h = absent_term vs dir f (rw (one_unknown vs f.before i s h) (and-false _))
+
+-- ---- a value whose m is zero is (0, 0)
 abbrev pub ZeroByDigits : Decimal → Type 0
 ZeroByDigits d = eqb d.m 0 ≡ true → d ≡ zero_of
 

@@ -1,4 +1,4 @@
--- The values that the code's numbers stand for: every one is zero where its m is, and B and H are what the code works out. Assumes nothing.
+-- The values that the code's numbers stand for: every one is zero where its m is, and B, H and G are what the code works out. Assumes nothing.
 use mathlib.Core.Path.{◌≡◌, refl, sym, ap, subst, ◌∙◌}
 use mathlib.Core.List.{List, [], ◌∷◌, ◌++◌, map}
 use Prim.Native.Nat.{ℕ, zero, suc, ◌+◌, ◌-◌, ◌≤◌}
@@ -16,22 +16,24 @@ use Rattle.factors.specs.declared.numbers.Factors.{Factors}
 use Rattle.factors.specs.declared.numbers.ContaminantNumbers.{ContaminantNumbers}
 use Rattle.factors.specs.declared.prepared.Prepared.{Prepared}
 use Rattle.terms.specs.declared.pathways.PathwayTerms.{PathwayTerms}
-use Rattle.factors.specs.Widths.{input_width, formula_width, two_width, hours_width}
-use Rattle.inputs.specs.declared.kind.Medium.TheVariants.{Water}
+use Rattle.factors.specs.Widths.{input_width, formula_width, two_width, hours_width, ages_width}
+use Rattle.inputs.specs.declared.kind.Medium.TheVariants.{Soil, Water}
 use Rattle.inputs.specs.Kinds.{medium_number}
 use Rattle.decimal.specs.Range.{ends}
 use Rattle.factors.proofs.Hours.{shower_value, hours_value}
+use Rattle.factors.proofs.Ages.{child_value, adult_value, ages_value}
 use Rattle.formulas.specs.Side.{Side}
-use Rattle.formulas.specs.Formula.{◌÷◌, none, B, H, One, ET, F, N, S, Vol, L, W, VF, PEF, no_pathways, pathways_of, derived, derived_places}
+use Rattle.formulas.specs.Formula.{◌÷◌, none, B, H, G, One, ET, F, N, S, Vol, L, W, VF, PEF, no_pathways, pathways_of, derived, derived_places}
+use Rattle.formulas.specs.Formula.{ChildSA, ChildEF, ChildED, ChildBW, AdultSA, AdultEF, AdultED, AdultBW}
 use Rattle.formulas.specs.Term.{look, constants, present_of, evaluated, term_of, total_of}
 use Rattle.factors.specs.Stands.{Stands, StandAll, factor_numbers, contaminant_numbers}
 use Rattle.factors.specs.Stands.StandAll.{end, next}
-use Rattle.factors.specs.Prepared.{Middle, unit, shower_of, hours_of}
+use Rattle.factors.specs.Prepared.{Middle, unit, shower_of, hours_of, one_age, both_ages}
 use Rattle.terms.specs.Side.{number_inputs, number_values, Ready, SideFor, no_side}
 use Rattle.decimal.proofs.Value.{Value, skip_first, skip_next, value_zero}
 use Rattle.factors.proofs.StandsLaws.{no_number, zero_stands, stands_at, stands_join, stands_operand, stands_middle, stands_value, stands_most, stands_is, stands_div, stands_add, stands_mul3}
 use Rattle.factors.proofs.Constants.{num, unit_stands, millionth_stands, thousandth_stands, half_stands, years_per_hour_stands, days_stands, thousand_stands}
-use Rattle.formulas.proofs.Presence.{ZeroByDigits, term_evaluated}
+use Rattle.formulas.proofs.Presence.{ZeroByDigits, term_evaluated, absent_term}
 
 -- ---- the code's numbers in the order of the table's names, from the first constant
 abbrev constant_numbers : List Number
@@ -77,11 +79,11 @@ module _ {dir : Direction} {m : ℕ} {f : Factors} {p : Prepared} {t : Contamina
   input_known n = value_zero (stands_value (lit≤ tt) (stands_at inputs_stand n))
 
   plain : List Decimal
-  plain = zero_of ∷ zero_of ∷ number_inputs f t
+  plain = zero_of ∷ zero_of ∷ zero_of ∷ number_inputs f t
 
   plain_known : (n : ℕ) → ZeroByDigits (look plain n)
   unfolding plain
-  plain_known n = fronted (worked (λ e. refl) (worked (λ e. refl) bare)) (number_inputs f t) input_known n
+  plain_known n = fronted (worked (λ e. refl) (worked (λ e. refl) (worked (λ e. refl) bare))) (number_inputs f t) input_known n
 
   -- the two parts of B
   vf_term : term_of plain dir ((One ∷ []) ÷ (VF ∷ [])) ≡ div_of unit (decimal_of t.transfer.vf) dir
@@ -139,10 +141,34 @@ module _ {dir : Direction} {m : ℕ} {f : Factors} {p : Prepared} {t : Contamina
   hours_known : ZeroByDigits (look (number_values dir f t) H)
   hours_known = subst ZeroByDigits (sym hours_added) (value_zero (hours_value dir r.factors))
 
+  -- the two parts of G, and what the code works out
+  child_term : term_of plain dir ((ChildSA ∷ ChildEF ∷ ChildED ∷ []) ÷ (ChildBW ∷ [])) ≡ one_age dir f.ages.child
+  unfolding plain
+  child_term = term_evaluated plain plain_known dir ((ChildSA ∷ ChildEF ∷ ChildED ∷ []) ÷ (ChildBW ∷ []))
+
+  adult_term : term_of plain dir ((AdultSA ∷ AdultEF ∷ AdultED ∷ []) ÷ (AdultBW ∷ [])) ≡ one_age dir f.ages.adult
+  unfolding plain
+  adult_term = term_evaluated plain plain_known dir ((AdultSA ∷ AdultEF ∷ AdultED ∷ []) ÷ (AdultBW ∷ []))
+
+  ages_added : look (number_values dir f t) G ≡ both_ages dir f
+  unfolding number_values derived total_of plain
+  ages_added =
+      let child = child_value dir r.factors in
+      ap (λ (d : Decimal). summed dir zero_of (d ∷ term_of plain dir ((AdultSA ∷ AdultEF ∷ AdultED ∷ []) ÷ (AdultBW ∷ [])) ∷ [])) child_term ∙
+      ap (λ (d : Decimal). summed dir zero_of (one_age dir f.ages.child ∷ d ∷ [])) adult_term ∙
+      ap (λ (d : Decimal). summed dir d (one_age dir f.ages.adult ∷ [])) (skip_first dir child) ∙
+      skip_next dir child (adult_value dir r.factors)
+
+  pub ages_stand : m ≡ medium_number Soil → Stands ages_width p.ages (look (number_values dir f t) G)
+  ages_stand soil = stands_is (sym ages_added) (r.prepared.ages soil)
+
+  ages_known : ZeroByDigits (look (number_values dir f t) G)
+  ages_known = subst ZeroByDigits (sym ages_added) (value_zero (ages_value dir r.factors))
+
   -- every value is zero where its m is
   values_known : (n : ℕ) → ZeroByDigits (look (number_values dir f t) n)
   unfolding number_values derived
-  values_known n = fronted (worked (value_zero (stands_value (lit≤ tt) air_stands)) (worked hours_known bare)) (number_inputs f t) input_known n
+  values_known n = fronted (worked (value_zero (stands_value (lit≤ tt) air_stands)) (worked hours_known (worked ages_known bare))) (number_inputs f t) input_known n
 
   -- ---- a number that stands for a formula's value stands for its term
   pub side_term : (medium class : ℕ) (side : Side) (n : ℕ) {w : ℕ} {x : Number} → w ≤ formula_width →
@@ -167,8 +193,8 @@ stands_turned dir back e {u} {v} {w} {p} {q} {n} {r} {a} {b} {c} s t z h k =
 
 -- no formula, no term
 pub no_term : (vs : List Decimal) (dir : Direction) → term_of vs dir none ≡ zero_of
-unfolding term_of present_of
-no_term vs dir = refl
+unfolding present_of
+no_term vs dir = absent_term vs dir none refl
 
 none_stands : (vs : List Decimal) (dir : Direction) → Stands formula_width no_number (term_of vs dir none)
 none_stands vs dir = stands_is (sym (no_term vs dir)) (stands_most (lit≤ tt) zero_stands)

@@ -39,10 +39,19 @@ pub record Ready (dir : Direction) (medium : ℕ) (f : Factors) (p : Prepared) (
 pub record Air (dir : Direction) (f : Factors) (t : ContaminantNumbers) (b : Number) : Type 0 where
   pub stands : Stands (two_width + 1) b (look (number_values dir f t) B)
 
+-- n is the term of pathway i, counted from 0, of these formulas
+abbrev pub TermFor : Direction → Factors → ContaminantNumbers → List Formula → ℕ → Number → Type 0
+TermFor dir f t fs i n = Stands formula_width n (term_of (number_values dir f t) dir (get_or fs i none))
+
 pub record SideFor (dir : Direction) (f : Factors) (t : ContaminantNumbers) (fs : List Formula) (s : PathwayTerms) : Type 0 where
-  pub first : Stands formula_width s.first (term_of (number_values dir f t) dir (get_or fs 0 none))
-  pub second : Stands formula_width s.second (term_of (number_values dir f t) dir (get_or fs 1 none))
-  pub third : Stands formula_width s.third (term_of (number_values dir f t) dir (get_or fs 2 none))
+  pub first : TermFor dir f t fs 0 s.first
+  pub second : TermFor dir f t fs 1 s.second
+  pub third : TermFor dir f t fs 2 s.third
+
+-- the third terms of a chemical in soil, of risk and of hazard
+pub record SkinFor (dir : Direction) (f : Factors) (t : ContaminantNumbers) (r : Sides Number) : Type 0 where
+  pub risk : TermFor dir f t (pathways_of 1 1 Risk) 2 r.risk
+  pub hazard : TermFor dir f t (pathways_of 1 1 Hazard) 2 r.hazard
 
 pub record TermsFor (dir : Direction) (f : Factors) (t : ContaminantNumbers) (medium class : ℕ) (r : Terms) : Type 0 where
   pub risk : SideFor dir f t (pathways_of medium class Risk) r.risk

@@ -5,10 +5,10 @@ ghost use Rattle.std.specs.Prelude.{◌≡◌};
 ghost use Rattle.rounding.specs.Operations.{sum_of};
 ghost use Rattle.formulas.specs.Side.{Risk, Hazard};
 ghost use Rattle.formulas.specs.Formula.{pathways_of};
-ghost use Rattle.terms.specs.Side.{Ready, Air, no_side, SideFor, TermsFor, WideSide, TotalSize};
+ghost use Rattle.terms.specs.Side.{Ready, Air, no_side, TermFor, SideFor, SkinFor, TermsFor, WideSide, TotalSize};
 ghost use Rattle.terms.specs.OneProof.{one_ready};
 ghost use Rattle.inputs.specs.Kinds.{medium_number, class_number};
-ghost use Rattle.inputs.specs.declared.kind.Medium.TheVariants.{Water};
+ghost use Rattle.inputs.specs.declared.kind.Medium.TheVariants.{Soil, Water};
 
 use factors::numbers::{ContaminantNumbers, Factors};
 use factors::prepared::{DAYS, HALF, MILLIONTH, ONE, Prepared, product3};
@@ -64,9 +64,32 @@ impl Given {
             .add(self.p.inverse_pef, self.dir)
     }
 
-    // Soil, chemical, risk: ingestion and inhalation.
-    fn soil_chemical_risk(self, b: Number) -> PathwayTerms
-        requires { Air self.dir self.f self.t b }
+    // Soil on skin, of risk and of hazard. Without ABS or without G both are zero, and nothing is worked out.
+    fn on_skin(self) -> Sides<Number>
+        requires { self.medium ≡ Soil }
+        ensures { SkinFor self.dir self.f self.t result }
+    {
+        let Given { f, p, t, dir, .. } = self;
+        if (t.abs.m == 0) | (p.ages.m == 0) {
+            return Sides {
+                risk: Number::ZERO,
+                hazard: Number::ZERO,
+            };
+        }
+        let x = t.toxicity;
+        let af = f.ages.af;
+        let risk = product3(product3(x.sfo, t.abs, af, dir), MILLIONTH, p.ages, dir);
+        let hazard = product3(t.abs, af, MILLIONTH, dir).mul(p.ages, dir);
+        let dose = product3(x.rfdo, f.exposure.ed, DAYS, dir.opposite());
+        Sides {
+            risk: risk.div(p.averaging, dir),
+            hazard: hazard.div(dose, dir),
+        }
+    }
+
+    // Soil, chemical, risk: ingestion, inhalation and skin.
+    fn soil_chemical_risk(self, b: Number, skin: Number) -> PathwayTerms
+        requires { (Air self.dir self.f self.t b) × TermFor self.dir self.f self.t (pathways_of 1 1 Risk) 2 skin }
         ensures { SideFor self.dir self.f self.t (pathways_of 1 1 Risk) result }
     {
         let Given { f, p, t, dir, .. } = self;
@@ -78,13 +101,13 @@ impl Given {
         PathwayTerms {
             first: swallowed.div(p.lifetime, dir),
             second: inhaled.div(p.lifetime, dir),
-            third: Number::ZERO,
+            third: skin,
         }
     }
 
-    // Soil, chemical, hazard: ingestion and inhalation.
-    fn soil_chemical_hazard(self, b: Number) -> PathwayTerms
-        requires { Air self.dir self.f self.t b }
+    // Soil, chemical, hazard: ingestion, inhalation and skin.
+    fn soil_chemical_hazard(self, b: Number, skin: Number) -> PathwayTerms
+        requires { (Air self.dir self.f self.t b) × TermFor self.dir self.f self.t (pathways_of 1 1 Hazard) 2 skin }
         ensures { SideFor self.dir self.f self.t (pathways_of 1 1 Hazard) result }
     {
         let Given { f, p, t, dir, .. } = self;
@@ -97,7 +120,7 @@ impl Given {
         PathwayTerms {
             first: p.soil_intake.div(oral, dir),
             second: product3(k.ira, b, e.ef, dir).div(inhaled, dir),
-            third: Number::ZERO,
+            third: skin,
         }
     }
 
@@ -231,9 +254,10 @@ pub fn terms_of(
     match (class, medium) {
         (Class::Chemical, Medium::Soil) => {
             let b = given.air();
+            let skin = given.on_skin();
             Terms {
-                risk: given.soil_chemical_risk(b),
-                hazard: given.soil_chemical_hazard(b),
+                risk: given.soil_chemical_risk(b, skin.risk),
+                hazard: given.soil_chemical_hazard(b, skin.hazard),
             }
         }
         (Class::Radionuclide, Medium::Soil) => Terms {

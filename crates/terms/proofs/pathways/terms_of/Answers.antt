@@ -15,6 +15,15 @@ risk_alone : {dir : Direction} {f : Factors} {t : ContaminantNumbers} (medium cl
 risk_alone {dir} {f} {t} medium class {r} none risk e =
     record { risk = risk; hazard = subst (λ (fs : List Formula). SideFor dir f t fs r.hazard) (sym none) (no_terms dir f t e) }
 
+pub on_skin-skin-requires : goal.on_skin-skin-requires
+on_skin-skin-requires c = c.in-Chemical-Soil.is-1
+
+pub soil_chemical_risk-requires : goal.soil_chemical_risk-requires
+soil_chemical_risk-requires c = (c.air-b.ensures, c.on_skin-skin.ensures.risk)
+
+pub soil_chemical_hazard-requires : goal.soil_chemical_hazard-requires
+soil_chemical_hazard-requires c = (c.air-b.ensures, c.on_skin-skin.ensures.hazard)
+
 pub returns-in-Chemical-Soil : goal.returns-in-Chemical-Soil
 returns-in-Chemical-Soil c =
     let row = c.in-Chemical-Soil in

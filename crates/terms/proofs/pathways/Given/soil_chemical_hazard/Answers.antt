@@ -11,7 +11,7 @@ use Rattle.factors.specs.declared.numbers.ContaminantNumbers.{ContaminantNumbers
 use Rattle.factors.specs.declared.prepared.Prepared.{Prepared}
 use Rattle.factors.specs.Stands.{Stands}
 use Rattle.terms.specs.Side.{number_values, Ready, Air}
-use Rattle.factors.proofs.StandsLaws.{zero_stands, stands_div, stands_middle, stands_mul3}
+use Rattle.factors.proofs.StandsLaws.{stands_div, stands_middle, stands_mul3}
 use Rattle.terms.proofs.NumberValues.{named, input, middle, side_term}
 use Rattle.terms.proofs.Products.{three_below, three_fit, quotient_fits}
 use Rattle.terms.proofs.pathways.Given.soil_chemical_hazard.Goals as goal
@@ -35,12 +35,12 @@ div-requires c =
     quotient_fits ready.prepared.soil_intake (lit≤ tt) divisor (lit≤ tt)
 
 pub product3-requires : goal.product3-requires
-product3-requires c = let r = middle c.args.self.ready in (r IRA, (stands_middle (lit≤ tt) c.requires.stands, r EF))
+product3-requires c = let r = middle c.args.self.ready in (r IRA, (stands_middle (lit≤ tt) c.requires.0.stands, r EF))
 
 pub div-requires-2 : goal.div-requires-2
 div-requires-2 c =
     let ready = c.args.self.ready in
-    let dividend = intake ready c.requires c.product3.ensures.0 in
+    let dividend = intake ready c.requires.0 c.product3.ensures.0 in
     let divisor = three_below ready RfDi BW Days c.opposite-back.ensures c.product3-inhaled.ensures.0 in
     quotient_fits dividend (lit≤ tt) divisor (lit≤ tt)
 
@@ -51,9 +51,9 @@ returns c =
     let dir = c.args.self.dir in
     let swallowed = three_below ready RfDo BW Days c.opposite-back.ensures c.product3-oral.ensures.0 in
     let breathed = three_below ready RfDi BW Days c.opposite-back.ensures c.product3-inhaled.ensures.0 in
-    let taken = intake ready c.requires c.product3.ensures.0 in
+    let taken = intake ready c.requires.0 c.product3.ensures.0 in
     record {
       first = side_term ready 1 1 Hazard 0 (lit≤ tt) (stands_div dir ready.prepared.soil_intake swallowed (lit≤ tt) c.div.ensures.0);
       second = side_term ready 1 1 Hazard 1 (lit≤ tt) (stands_div dir taken breathed (lit≤ tt) c.div-2.ensures.0);
-      third = side_term ready 1 1 Hazard 2 (lit≤ tt) zero_stands;
+      third = c.requires.1;
     }

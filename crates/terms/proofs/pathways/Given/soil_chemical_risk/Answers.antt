@@ -11,7 +11,7 @@ use Rattle.factors.specs.declared.numbers.ContaminantNumbers.{ContaminantNumbers
 use Rattle.factors.specs.declared.prepared.Prepared.{Prepared}
 use Rattle.factors.specs.Stands.{Stands}
 use Rattle.terms.specs.Side.{number_values, Ready, Air}
-use Rattle.factors.proofs.StandsLaws.{zero_stands, stands_div, stands_middle, stands_mul3}
+use Rattle.factors.proofs.StandsLaws.{stands_div, stands_middle, stands_mul3}
 use Rattle.terms.proofs.NumberValues.{named, input, middle, side_term}
 use Rattle.terms.proofs.Products.{three_inputs, two_more, three_fit, two_more_fit, quotient_fits}
 use Rattle.terms.proofs.pathways.Given.soil_chemical_risk.Goals as goal
@@ -33,12 +33,12 @@ product3-swallowed-requires c =
 pub product3-requires-2 : goal.product3-requires-2
 product3-requires-2 c =
     let r = middle c.args.self.ready in
-    (r SFi, (r IRA, stands_middle (lit≤ tt) c.requires.stands))
+    (r SFi, (r IRA, stands_middle (lit≤ tt) c.requires.0.stands))
 
 pub product3-inhaled-requires : goal.product3-inhaled-requires
 product3-inhaled-requires c =
     let ready = c.args.self.ready in
-    two_more_fit ready EF ED (inhaled3 ready c.requires c.product3-2.ensures.0) (lit≤ tt)
+    two_more_fit ready EF ED (inhaled3 ready c.requires.0 c.product3-2.ensures.0) (lit≤ tt)
 
 pub div-requires : goal.div-requires
 div-requires c =
@@ -49,7 +49,7 @@ div-requires c =
 pub div-requires-2 : goal.div-requires-2
 div-requires-2 c =
     let ready = c.args.self.ready in
-    let dividend = two_more ready EF ED (inhaled3 ready c.requires c.product3-2.ensures.0) (lit≤ tt) c.product3-inhaled.ensures.0 in
+    let dividend = two_more ready EF ED (inhaled3 ready c.requires.0 c.product3-2.ensures.0) (lit≤ tt) c.product3-inhaled.ensures.0 in
     quotient_fits dividend (lit≤ tt) ready.prepared.lifetime (lit≤ tt)
 
 pub returns : goal.returns
@@ -58,9 +58,9 @@ returns c =
     let ready = c.args.self.ready in
     let dir = c.args.self.dir in
     let swallowed = two_more ready EF ED (three_inputs ready SFo IR Millionth c.product3.ensures.0) (lit≤ tt) c.product3-swallowed.ensures.0 in
-    let breathed = two_more ready EF ED (inhaled3 ready c.requires c.product3-2.ensures.0) (lit≤ tt) c.product3-inhaled.ensures.0 in
+    let breathed = two_more ready EF ED (inhaled3 ready c.requires.0 c.product3-2.ensures.0) (lit≤ tt) c.product3-inhaled.ensures.0 in
     record {
       first = side_term ready 1 1 Risk 0 (lit≤ tt) (stands_div dir swallowed ready.prepared.lifetime (lit≤ tt) c.div.ensures.0);
       second = side_term ready 1 1 Risk 1 (lit≤ tt) (stands_div dir breathed ready.prepared.lifetime (lit≤ tt) c.div-2.ensures.0);
-      third = side_term ready 1 1 Risk 2 (lit≤ tt) zero_stands;
+      third = c.requires.1;
     }
