@@ -44,8 +44,10 @@ pub fn put_header(out: &mut [u8], h: Header)
     fields::put_all(out, 48, s.contact.into());
     fields::put_all(out, 96, s.targets.into());
     fields::put_all(out, 112, s.house.into());
-    words::clear(out, 176, 332);
-    put_last_word(out, 44);
+    words::clear(out, 176, 24);
+    fields::put_all(out, 200, s.ages.into());
+    words::clear(out, 272, 236);
+    put_last_word(out, 68);
 }
 
 // Writes a block of kind 2.
@@ -57,8 +59,10 @@ pub fn put_contaminant(out: &mut [u8], place: u32, r: Contaminant)
     fields::put_all(out, 16, r.toxicity.into());
     fields::put_all(out, 56, r.transfer.into());
     fields::put_all(out, 72, [r.c, r.saturation]);
-    words::clear(out, 88, 420);
-    put_last_word(out, 22);
+    words::clear(out, 88, 24);
+    fields::put(out, 112, r.abs);
+    words::clear(out, 120, 388);
+    put_last_word(out, 30);
 }
 
 // Writes a block of kind 3: the guidelines of risk by pathway and in total, then those of hazard.

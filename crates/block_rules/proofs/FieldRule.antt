@@ -8,7 +8,7 @@ use lib.Dec.{eqb}
 use Rattle.words.specs.Words.{word_at}
 use Rattle.decimal.specs.declared.Decimal.{Decimal}
 use Rattle.fields.specs.Fields.{decimals_at}
-use Rattle.inputs.specs.Inputs.{exposure_of, contact_of, targets_of, house_of, toxicity_of, transfer_of, scenario_of, contaminant_of}
+use Rattle.inputs.specs.Inputs.{exposure_of, contact_of, targets_of, house_of, age_of, ages_of, toxicity_of, transfer_of, scenario_of, contaminant_of}
 use Rattle.inputs.specs.Inputs.{scenario_decimals, contaminant_decimals}
 use Rattle.inputs.specs.Valid.{all_valid}
 use Rattle.inputs.specs.Rules.{one_to, most_medium, most_class, scenario_fits, contaminant_fits}
@@ -18,7 +18,7 @@ use Rattle.block_rules.proofs.Pieces.{pieces_split}
 
 -- the decimals of what was read are those that stand there
 scenario_list : (s : List ℕ) (at : ℕ) → scenario_decimals (scenario_at s at) ≡ decimals_in scenario_pieces s at
-unfolding scenario_at scenario_of exposure_of contact_of targets_of house_of decimals_in decimals_at
+unfolding scenario_at scenario_of exposure_of contact_of targets_of house_of age_of ages_of decimals_in decimals_at
 scenario_list s at = refl
 
 contaminant_list : (s : List ℕ) (at : ℕ) → contaminant_decimals (contaminant_at s at) ≡ decimals_in value_pieces s (at + 8)

@@ -5,7 +5,6 @@ use Rattle.words.specs.Words.{word_at, zeros}
 use Rattle.words.specs.Bytes.{le4}
 use Rattle.decimal.specs.declared.Decimal.{Decimal}
 use Rattle.fields.specs.Fields.{unused_zero, decimals_at, fields_ok, field_bytes}
-use Rattle.inputs.specs.Inputs.{scenario_places, contaminant_places}
 
 -- a word, so many decimals, so many bytes that are zero
 pub data Piece : Type 0 where
@@ -15,10 +14,10 @@ pub data Piece : Type 0 where
 
 -- a scenario, from byte 16 on of kind 1, and a contaminant's decimals, from byte 16 on of kind 2
 abbrev pub scenario_pieces : List Piece
-scenario_pieces = Decimals scenario_places ∷ Unused 332 ∷ []
+scenario_pieces = Decimals 20 ∷ Unused 24 ∷ Decimals 9 ∷ Unused 236 ∷ []
 
 abbrev pub value_pieces : List Piece
-value_pieces = Decimals contaminant_places ∷ Unused 420 ∷ []
+value_pieces = Decimals 9 ∷ Unused 24 ∷ Decimals 1 ∷ Unused 388 ∷ []
 
 -- kind 1: medium, count, the scenario
 abbrev pub header_pieces : List Piece

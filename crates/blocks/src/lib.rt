@@ -51,7 +51,7 @@ fn sound(block: &[u8], place: u32) -> bool
 
 // The scenario whose first decimal stands at `at`.
 fn get_scenario(part: &[u8], at: usize) -> Scenario
-    requires { at + 160 ≤ length part.now }
+    requires { at + 256 ≤ length part.now }
     ensures { result ≡ scenario_at part.now at }
 {
     Scenario {
@@ -59,12 +59,13 @@ fn get_scenario(part: &[u8], at: usize) -> Scenario
         contact: fields::read_all(part, at + 32).into(),
         targets: fields::read_all(part, at + 80).into(),
         house: fields::read_all(part, at + 96).into(),
+        ages: fields::read_all(part, at + 184).into(),
     }
 }
 
 // The header whose medium stands at `at`: in the 504 bytes between kind and last word at 4, in a struct of C at 0.
 pub fn get_header(part: &[u8], at: usize) -> Header
-    requires { at + 168 ≤ length part.now }
+    requires { at + 264 ≤ length part.now }
     ensures { result ≡ header_at part.now at }
 {
     Header {
@@ -79,12 +80,14 @@ pub fn header_unused(part: &[u8], at: usize) -> bool
     requires { at + struct_size ≤ length part.now }
     ensures { result ≡ header_unused part.now at }
 {
-    fields::unused_zero(part, at + 8, 20) & words::all_zero(part, at + 168, 332)
+    let before = fields::unused_zero(part, at + 8, 20) & words::all_zero(part, at + 168, 24);
+    let ages = fields::unused_zero(part, at + 192, 9);
+    before & ages & words::all_zero(part, at + 264, 236)
 }
 
 // The contaminant whose class stands at `at`: in the 504 bytes between kind and last word at 4, in a struct of C at 0.
 pub fn get_contaminant(part: &[u8], at: usize) -> Contaminant
-    requires { at + 80 ≤ length part.now }
+    requires { at + 112 ≤ length part.now }
     ensures { result ≡ contaminant_at part.now at }
 {
     Contaminant {
@@ -94,6 +97,7 @@ pub fn get_contaminant(part: &[u8], at: usize) -> Contaminant
         transfer: fields::read_all(part, at + 48).into(),
         c: fields::read(part, at + 64),
         saturation: fields::read(part, at + 72),
+        abs: fields::read(part, at + 104),
     }
 }
 
@@ -102,7 +106,9 @@ pub fn contaminant_unused(part: &[u8], at: usize) -> bool
     requires { at + struct_size ≤ length part.now }
     ensures { result ≡ contaminant_unused part.now at }
 {
-    fields::unused_zero(part, at + 8, 9) & words::all_zero(part, at + 80, 420)
+    let before = fields::unused_zero(part, at + 8, 9) & words::all_zero(part, at + 80, 24);
+    let abs = fields::unused_zero(part, at + 104, 1);
+    before & abs & words::all_zero(part, at + 112, 388)
 }
 
 // The header of a site of so many blocks: its first 512 bytes.

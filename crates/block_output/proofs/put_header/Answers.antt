@@ -3,7 +3,7 @@ use Rattle.std.proofs.Common.{[], ◌∷◌, ◌++◌, refl, append_assoc, appen
 use Rattle.words.proofs.Written.{wrote_next}
 use Rattle.fields.specs.Fields.{field_bytes}
 use Rattle.fields.proofs.ReadBack.{field_bytes_length}
-use Rattle.inputs.specs.Inputs.{exposure_decimals, contact_decimals, target_decimals, scenario_decimals, house_decimals}
+use Rattle.inputs.specs.Inputs.{exposure_decimals, contact_decimals, target_decimals, scenario_decimals, house_decimals, ages_decimals}
 use Rattle.block_rules.specs.Pieces.{header_pieces, bytes_of}
 use Rattle.block_rules.specs.Layouts.{body_of, header_block}
 use Rattle.block_output.proofs.Blocks.{first_words, wrote_first, wrote_group, wrote_fields, wrote_gap, wrote_block}
@@ -24,6 +24,9 @@ returns c =
     let w₃ = wrote_fields first x y _ c.put_all-2.new.out w₂ (wrote_group _ _ c.put_all-2.ensures c.into-2.ensures) refl in
     let w₄ = wrote_fields first (x ++ y) z _ c.put_all-3.new.out w₃ (wrote_group _ _ c.put_all-3.ensures c.into-3.ensures) refl in
     let w₅ = wrote_fields first (x ++ (y ++ z)) u _ c.put_all-4.new.out w₄ (wrote_group _ _ c.put_all-4.ensures c.into-4.ensures) refl in
-    let w₆ = wrote_gap 332 c.clear.new.out w₅ c.clear.ensures in
+    let v = ages_decimals s.ages in
+    let w₆ = wrote_gap 24 c.clear.new.out w₅ c.clear.ensures in
+    let w₇ = wrote_next c.put_all-5.new.out (field_bytes v) _ w₆ (wrote_group _ _ c.put_all-5.ensures c.into-5.ensures) (field_bytes_length v) in
+    let w₈ = wrote_gap 236 c.clear-2.new.out w₇ c.clear-2.ensures in
     let ws = h.medium ∷ h.count ∷ [] in
-    wrote_block 1 0 header_pieces ws (scenario_decimals s) c.put_last_word.new.out w₆ (simp (append_assoc, append-nil)) c.put_last_word.ensures
+    wrote_block 1 0 header_pieces ws (scenario_decimals s) c.put_last_word.new.out w₈ (simp (append_assoc, append-nil)) c.put_last_word.ensures

@@ -7,4 +7,4 @@ use Rattle.blocks.proofs.contaminant_unused.Goals as goal
 
 pub returns : goal.returns
 unfolding contaminant_unused unused_in
-returns c = simp (add_assoc, and-true, and_assoc, c.unused_zero.ensures, c.all_zero.ensures)
+returns c = simp (add_assoc, and-true, and_assoc, c.unused_zero.ensures, c.all_zero.ensures, c.unused_zero-abs.ensures, c.all_zero-2.ensures)

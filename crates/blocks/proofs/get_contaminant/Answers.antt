@@ -12,4 +12,4 @@ unfolding contaminant_at contaminant_of toxicity_of transfer_of decimals_in deci
 returns c =
     let toxicity = ap toxicity_of (c.into.ensures ∙ c.read_all.ensures) in
     let transfer = ap transfer_of (c.into-2.ensures ∙ c.read_all-2.ensures) in
-    simp (add_assoc, c.word.ensures, c.word-2.ensures, toxicity, transfer, c.read.ensures, c.read-2.ensures)
+    simp (add_assoc, c.word.ensures, c.word-2.ensures, toxicity, transfer, c.read.ensures, c.read-2.ensures, c.read-3.ensures)

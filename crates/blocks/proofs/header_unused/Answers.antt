@@ -7,4 +7,4 @@ use Rattle.blocks.proofs.header_unused.Goals as goal
 
 pub returns : goal.returns
 unfolding header_unused unused_in
-returns c = simp (add_assoc, and-true, and_assoc, c.unused_zero.ensures, c.all_zero.ensures)
+returns c = simp (add_assoc, and-true, and_assoc, c.unused_zero.ensures, c.all_zero.ensures, c.unused_zero-ages.ensures, c.all_zero-2.ensures)

@@ -1,17 +1,17 @@
 -- `c_structs::header_from`: the form is tested first.
 use Rattle.std.proofs.Common.{length, sym, ◌∙◌}
 use borrow.Author.Tests.{eq-eqb, ne_eqb}
-use Rattle.inputs.specs.Inputs.{scenario_of, exposure_of, contact_of, targets_of, house_of}
+use Rattle.inputs.specs.Inputs.{scenario_of, exposure_of, contact_of, targets_of, house_of, age_of, ages_of}
 use Rattle.block_rules.specs.Rules.{struct_size}
 use Rattle.gv_rules.specs.Exports.{header_form, header_from}
 use Rattle.c_structs.proofs.header_from.Goals as goal
 
 pub returns-then-header-ne-STRUCT_SIZE : goal.returns-then-header-ne-STRUCT_SIZE
-unfolding header_from header_form scenario_of exposure_of contact_of targets_of house_of
+unfolding header_from header_form scenario_of exposure_of contact_of targets_of house_of age_of ages_of
 returns-then-header-ne-STRUCT_SIZE c = rw (ne_eqb (length c.args.header.now) struct_size c.if-header-ne-STRUCT_SIZE.true)
 
 pub returns-then-not-header_unused : goal.returns-then-not-header_unused
-unfolding header_from header_form scenario_of exposure_of contact_of targets_of house_of
+unfolding header_from header_form scenario_of exposure_of contact_of targets_of house_of age_of ages_of
 returns-then-not-header_unused c =
     rw (eq-eqb (length c.args.header.now) struct_size c.if-header-ne-STRUCT_SIZE.false, sym c.header_unused.ensures ∙ c.if-not-header_unused.true)
 
