@@ -4,7 +4,7 @@ use Rattle.std.specs.Prelude.{Result}
 use Rattle.std.specs.Result.{result_unwrap_or}
 use Rattle.outcome.specs.declared.Refused.{Refused}
 use Rattle.inputs.specs.declared.Scenario.{Scenario}
-use Rattle.inputs.specs.Inputs.{scenario_of, exposure_of, contact_of, targets_of, house_of}
+use Rattle.inputs.specs.Inputs.{scenario_of, exposure_of, contact_of, targets_of, house_of, age_of, ages_of}
 use Rattle.inputs.specs.BuiltIn.{blank, scenario_sent}
 use Rattle.case_output.proofs.Written.{two_written}
 use Rattle.value_calls.specs.Sent.{factors_text}
@@ -16,6 +16,6 @@ sent_or_blank (Ok s) e = refl
 sent_or_blank (Err r) e = e
 
 pub returns : goal.returns
-unfolding scenario_of exposure_of contact_of targets_of house_of
+unfolding scenario_of exposure_of contact_of targets_of house_of age_of ages_of
 returns g c =
     two_written _ _ _ _ c.print_factors.result (ap factors_text (c.unwrap_or.ensures ∙ sent_or_blank c.args.b refl)) c.in_ok-print_answered.ensures c.print_factors.ensures
