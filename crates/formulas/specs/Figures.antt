@@ -1,6 +1,6 @@
 -- The examples of tritium and of soil on skin (docs/SPECIFICATION.md, "Checked figures"), and what H and G come to there: in each direction, and with
 -- a zero factor in one part or in both.
-use Rattle.std.specs.Prelude.{List, [], ◌∷◌, pos, negsuc}
+use Rattle.std.specs.Prelude.{List, [], ◌∷◌, get_or, pos, negsuc}
 use Rattle.rounding.specs.declared.Direction.{Direction}
 use Rattle.rounding.specs.declared.Direction.TheVariants.{Down, Up}
 use Rattle.decimal.specs.declared.Decimal.{Decimal}
@@ -9,8 +9,9 @@ use Rattle.decimal.specs.Figures.{Figure, dec, ◌is◌}
 use Rattle.inputs.specs.declared.Scenario.{Scenario}
 use Rattle.inputs.specs.declared.Contaminant.{Contaminant}
 use Rattle.inputs.specs.BuiltIn.{office, no_ages}
-use Rattle.formulas.specs.Formula.{H, G}
-use Rattle.formulas.specs.Term.{look, values_for}
+use Rattle.formulas.specs.Side.{Side, Risk, Hazard}
+use Rattle.formulas.specs.Formula.{H, G, none}
+use Rattle.formulas.specs.Term.{look, term_of, formulas_for, values_for}
 
 -- a resident with a house (002, Table 1.2.3), with these ET and N; and tritium
 abbrev resident_with : Decimal → Decimal → Scenario
@@ -70,6 +71,18 @@ office_with child adult = record {
   };
 }
 
+-- a chemical with SFo 1, RfDo 0.02, a concentration and ABS, all else zero
+abbrev pub sample_of : Decimal → Decimal → Contaminant
+sample_of c abs = record {
+  class = 1;
+  id = 1;
+  toxicity = record { sfo = dec 1 (pos 0); sfi = zero_of; sfx = zero_of; rfdo = dec 2 (negsuc 1); rfdi = zero_of };
+  transfer = record { vf = zero_of; pc = zero_of };
+  c = c;
+  saturation = zero_of;
+  abs = abs;
+}
+
 abbrev pub office_on_skin : Scenario
 office_on_skin = office_with (dec 15 (pos 0)) (dec 70 (pos 0))
 
@@ -84,3 +97,13 @@ ages_figures =
     (both_ages Up zero_of (dec 70 (pos 0)) is dec 600000000 (negsuc 2)) ∷
     (both_ages Up (dec 15 (pos 0)) zero_of is dec 280000000 (negsuc 2)) ∷
     (both_ages Up zero_of zero_of is zero_of) ∷ []
+
+-- the sample with ABS 0.1 there, and the upper third term of each side
+abbrev pub on_skin : Contaminant
+on_skin = sample_of zero_of (dec 1 (negsuc 0))
+
+abbrev third_term : Side → Decimal
+third_term side = term_of (values_for Up office_on_skin on_skin) Up (get_or (formulas_for office_on_skin 1 on_skin side) 2 none)
+
+unfoldable pub skin_terms : List Figure
+skin_terms = (third_term Risk is dec 688845402 (negsuc 14)) ∷ (third_term Hazard is dec 964383562 (negsuc 12)) ∷ []
