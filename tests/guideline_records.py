@@ -133,14 +133,16 @@ def random_classes(random):
     return (CHEMICAL, RADIONUCLIDE, TRITIUM) if random.randrange(12) == 0 else random.choice(apart)
 
 
-def random_valid_case(random, classes=(CHEMICAL, RADIONUCLIDE, TRITIUM)):
+def random_valid_case(random, classes=(CHEMICAL, RADIONUCLIDE, TRITIUM), on_skin=None):
     """Each value that may be zero is zero in about one case of six, the saturation in one of two.
 
-    Tritium is in water, and its scenario has a house. In three cases of five the decimals of soil on skin are all zero.
+    Tritium is in water, and its scenario has a house. Where it is not said whether the case is on skin, it is in two of five: in the
+    others the decimals of soil on skin are all zero.
     """
     klass = random.choice(classes)
     needed = REQUIRED + HOUSE_FACTORS if klass == TRITIUM else REQUIRED
-    absent = () if random.randrange(5) < 2 else ON_SKIN
+    on_skin = random.randrange(5) < 2 if on_skin is None else on_skin
+    absent = () if on_skin else ON_SKIN
 
     def value(name):
         if name in absent or name not in needed and random.randrange(2 if name == "Csat" else 6) == 0:
@@ -152,16 +154,15 @@ def random_valid_case(random, classes=(CHEMICAL, RADIONUCLIDE, TRITIUM)):
     medium = WATER if klass == TRITIUM else random.choice((SOIL, WATER))
     case = Case(medium, {name: value(name) for name in SCENARIO_FACTORS}, record)
     if random.randrange(4) == 0:
-        on_skin = (medium, klass) == (SOIL, CHEMICAL) and not absent
-        return (with_carry_on_skin if on_skin else with_carry)(case, random)
+        return (with_carry_on_skin if (medium, klass, on_skin) == (SOIL, CHEMICAL, True) else with_carry)(case, random)
     if (medium, klass) == (SOIL, CHEMICAL) and random.randrange(3) == 0:
         return with_saturation_near(case, random)
     return case
 
 
-def random_case(random, classes=(CHEMICAL, RADIONUCLIDE, TRITIUM)):
+def random_case(random, classes=(CHEMICAL, RADIONUCLIDE, TRITIUM), on_skin=None):
     """Most cases keep every rule; one in five breaks one to three."""
-    case = random_valid_case(random, classes)
+    case = random_valid_case(random, classes, on_skin)
     if random.randrange(5):
         return case
     for _ in range(random.randint(1, 3)):
