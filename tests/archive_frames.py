@@ -14,10 +14,11 @@ import sys
 
 from call_frames import built_in
 from guideline_records import random_case
-from second.blocks import contaminant_block, field_bytes, header_block, write_contaminant, write_header
+from second.blocks import (CONTAMINANT_PLACES, HEADER_PLACES, between_fields, contaminant_block, field_bytes, header_block,
+                           write_contaminant, write_header)
 from second.decimals import ZERO
 from second.guideline import ACCEPTED, FIELD, ROOM, guideline, refused, scenario_refusal
-from second.terms import CONTAMINANT_VALUES, SCENARIO_FACTORS
+from second.terms import SCENARIO_FACTORS
 from site_frames import filled
 
 GUIDELINE, HEADER, CONTAMINANT, BUILT_IN = range(1, 5)
@@ -33,27 +34,28 @@ def contaminant_struct(case):
     return contaminant_block(1, case.record)[STRUCT]
 
 
-def with_form(source, given, fields):
-    """The struct of so many decimals, and whether it has its form: mostly as it is, at times of another length or with an unused
-    byte that is not zero, in a decimal or behind the last one."""
+def with_form(source, given, places):
+    """The struct whose decimals stand at these places of the block, and whether it has its form: mostly as it is, at times of another
+    length or with an unused byte that is not zero, in a decimal or beside them."""
     kind = source.randrange(16)
     if kind == 0:
         return given + b"\0", False
     if kind == 1:
-        return given[:source.choice((source.randrange(len(given)), 8 + 8 * fields, len(given) - 1))], False
+        return given[:source.choice((source.randrange(len(given)), places[-1] + 8 - STRUCT.start, len(given) - 1))], False
     if kind in (2, 3):
-        end = 8 + 8 * fields
-        gap = source.randrange(14, end, 8) + source.randrange(2) if kind == 2 else source.choice((end, source.randrange(end, len(given)), len(given) - 1))
-        return given[:gap] + b"\1" + given[gap + 1:], False
+        unused = between_fields(places)
+        ends = [at for at in unused if at - 1 not in unused or at + 1 not in unused]
+        at = source.choice(places) + source.choice((6, 7)) if kind == 2 else source.choice(source.choice((unused, ends)))
+        return given[:at - STRUCT.start] + b"\1" + given[at - STRUCT.start + 1:], False
     return given, True
 
 
 def with_header_form(source, case, count):
-    return with_form(source, header_struct(case, count), len(SCENARIO_FACTORS))
+    return with_form(source, header_struct(case, count), list(HEADER_PLACES.values()))
 
 
 def with_contaminant_form(source, case):
-    return with_form(source, contaminant_struct(case), len(CONTAMINANT_VALUES))
+    return with_form(source, contaminant_struct(case), list(CONTAMINANT_PLACES.values()))
 
 
 def guideline_answer(case, header_good, record_good):

@@ -4,8 +4,9 @@ import itertools
 import site_maker
 from call_frames import (AT_MOST, BUILT_IN, DECIMALS, GUIDELINE, LIST, OPERATIONS, WORKING, WRITE_CONTAMINANT, WRITE_HEADER,
                          built_in_call, contaminant_call, decimal_call, empty_call, guideline_call, header_call, list_call)
-from guideline_maker import full_case
-from guideline_records import HARD_NUMBERS, HOUSE_FACTORS, REQUIRED, just_below_power, random_case, random_decimal
+from guideline_maker import full_case, skin_case
+from guideline_records import (HARD_NUMBERS, HOUSE_FACTORS, NOT_ON_SKIN, ON_SKIN, REQUIRED, just_below_power, random_case,
+                               random_decimal)
 from house_sites import house_site
 from second.blocks import BLOCK, header_of, record_of
 from second.decimals import ZERO, Decimal
@@ -19,7 +20,8 @@ STORED_LISTS = {"missing_values": 12, "missing_factors": 8, "extreme_decimals": 
                 "exact_targets": 24, "hard_roundings": 12, "small_shares": 6, "zero_concentrations": 8, "one_side": 6,
                 "two_in_one_block": 24, "faults_in_two_blocks": 24, "id_orders": 10, "plausible_sites": 14, "mixed_classes": 16,
                 "without_house": 10, "tritium_in_soil": 6, "missing_house": 16, "near_saturation": 4, "exact_saturations": 4,
-                "capped_sides": 4, "absent_inhalation": 8, "ignored_saturation": 10}
+                "capped_sides": 4, "absent_inhalation": 8, "ignored_saturation": 10, "missing_on_skin": 5, "one_age": 3,
+                "hard_ages_in_sites": 5, "near_on_skin": 4, "capped_on_skin": 1, "ignored_on_skin": 2, "extreme_on_skin": 2}
 MOST_RECORDS = 10
 RANDOM_FAMILIES = (*STORED_LISTS, "one_fault", "many_blocks", "mixed_in_many", "random_sites")
 
@@ -140,13 +142,17 @@ def stored_writers():
         yield header_call(512, medium, 3, case.scenario)
     for word, number in itertools.product(("class", "id"), numbers):
         yield contaminant_call(512, 120, {**case.record, word: number})
-    for place, name in enumerate(SCENARIO_FACTORS):
+    for place, name in enumerate(name for name in SCENARIO_FACTORS if name in NOT_ON_SKIN):
         for d in (ZERO, FIELD_FAULTS[place % 4]):
             yield header_call(512, 1, 120, {**case.scenario, name: d})
             yield header_call(512, 1, 120, {**case.scenario, "AT": ZERO, name: d})
     for place, name in enumerate(CONTAMINANT_VALUES):
         for fault in (ZERO, FIELD_FAULTS[place % 4], Decimal(999_999_999, -20)):
             yield contaminant_call(512, 1, {**case.record, name: fault})
+    case = skin_case()
+    yield header_call(512, 2, 120, case.scenario)
+    for place, name in enumerate(name for name in SCENARIO_FACTORS if name in ON_SKIN):
+        yield header_call(512, 1, 120, {**case.scenario, name: FIELD_FAULTS[place % 4]})
 
 
 def marked_decimals():

@@ -10,14 +10,16 @@ import itertools
 import random
 import sys
 
-from guideline_records import HOUSE_FACTORS, Case, random_case, random_classes, random_decimal, random_valid_case
+from guideline_records import AGES, HOUSE_FACTORS, Case, random_case, random_classes, random_decimal, random_valid_case
 from second import steps
 from second.decimals import DOWN, UP, ZERO, Decimal, add, divide, keeps_input_rule, multiply, working_form
 from second.guideline import guideline
 from second.promises import guideline_faults, sum_faults
 from second.sums import sums
-from second.terms import CONTAMINANT_VALUES, SCENARIO_FACTORS, TABLE, inputs_of, rounded_factor, split, terms_of
-from site_example import tritium_case
+from second.terms import (CHEMICAL, CONTAMINANT_VALUES, RADIONUCLIDE, SCENARIO_FACTORS, SOIL, TABLE, inputs_of, rounded_factor, split,
+                          terms_of)
+from site_example import skin_case, tritium_case
+from site_parts import TWO_AGES
 
 OFFICE_WORKER = {
     "EF": Decimal(250, 0), "ED": Decimal(25, 0), "BW": Decimal(70, 0), "AT": Decimal(70, 0), "IR": Decimal(50, 0),
@@ -77,6 +79,28 @@ def saturation_figures():
         yield f"{what}: the other columns", {guidelines[column] for column in (0, 2, 4, 6)}, {ZERO}
 
 
+def skin_figures():
+    """Office worker in soil with a child and an adult; a chemical with SFo 1, RfDo 0.02 and ABS 0.1."""
+    case = skin_case()
+    answer = guideline(case.scenario, case.medium, case.record)
+    yield "soil on skin: risk guidelines", answer.guidelines[:4], ((572319997, -8), ZERO, (145170454, -8), (115797992, -8))
+    yield "soil on skin: hazard guidelines", answer.guidelines[4:], ((408799998, -4), ZERO, (103693181, -4), (827128518, -5))
+    yield from ages_figures(inputs_of(case.scenario, case.record))
+
+
+def ages_figures(inputs):
+    """G of the example, of one age alone and of none; and in each direction that of another child and adult."""
+    for direction in (DOWN, UP):
+        yield f"G {direction}", rounded_factor("G", inputs, direction), (880000000, -3)
+        for age, known in (("adult", (280000000, -3)), ("child", (600000000, -3))):
+            for name in AGES[age]:
+                yield f"G {direction}, {name} zero", rounded_factor("G", {**inputs, name: ZERO}, direction), known
+    yield "G up, childBW and adultSA zero", rounded_factor("G", {**inputs, "childBW": ZERO, "adultSA": ZERO}, UP), ZERO
+    # 2500 x 180 x 6 / 16 = 168750, and 5000 x 180 x 64 / 70 = 822857.142857...
+    yield "G up, 004", rounded_factor("G", {**inputs, **TWO_AGES}, UP), (991607143, -3)
+    yield "G down, 004", rounded_factor("G", {**inputs, **TWO_AGES}, DOWN), (991607142, -3)
+
+
 def marked_figures():
     """(name, computed, printed in the specification)"""
     one, two, three, seven = (working_form(Decimal(n, 0)) for n in (1, 2, 3, 7))
@@ -94,19 +118,20 @@ def marked_figures():
     yield from office_figures()
     yield from tritium_figures()
     yield from saturation_figures()
+    yield from skin_figures()
 
 
 def extreme_cases():
     """For each formula the least factors before the stroke and the greatest after it, and the reverse; each target, each C.
 
-    B is least where VF and PEF are greatest, H where L and W are. A decimal on the way with an e outside -999 to 999 is an error
-    (second/steps.py).
+    B is least where VF and PEF are greatest, H where L and W are, G where the weights of the ages are. A decimal on the way with an e
+    outside -999 to 999 is an error (second/steps.py).
     """
     ends = Decimal(1, -20), Decimal(999_999_999, 20)
     for (medium, klass, _), formulas in TABLE.items():
         for formula, (before, after), target, c in itertools.product(filter(None, formulas), (ends, ends[::-1]), ends, ends):
             values = dict.fromkeys(SCENARIO_FACTORS + CONTAMINANT_VALUES, before)
-            values.update(dict.fromkeys([*split(formula)[1], "VF", "PEF", *HOUSE_FACTORS], after))
+            values.update(dict.fromkeys([*split(formula)[1], "VF", "PEF", *HOUSE_FACTORS, "childBW", "adultBW"], after))
             values.update({"TR": target, "THI": target, "C": c})
             yield Case(medium, values, {**values, "class": klass, "id": 1})
 
@@ -134,12 +159,15 @@ def extreme_wrong():
 def random_list(source):
     """A case whose scenario and medium all records share, and 1 to 120 records in the order of their ids.
 
-    In half of the lists SFo and IR are known, so that each record has a pathway.
+    In half of the lists SFo and IR are known, so that each record has a pathway. A quarter of them are in soil and on skin.
     """
-    classes = random_classes(source)
-    first = random_valid_case(source, classes[-1:])
+    on_skin = source.randrange(4) == 1
+    classes = (RADIONUCLIDE, CHEMICAL) if on_skin else random_classes(source)
+    first = random_valid_case(source, classes[-1:], on_skin)
+    first.medium = SOIL if on_skin else first.medium
     count = source.choice((1, 1, 2, 3, 10, 120))
-    records = [(random_case if source.randrange(40) == 0 else random_valid_case)(source, classes).record for _ in range(count)]
+    makers = [random_case if source.randrange(40) == 0 else random_valid_case for _ in range(count)]
+    records = [make(source, classes, on_skin).record for make in makers]
     if source.randrange(2):
         first.scenario["IR"] = random_decimal(source)
         records = [{**record, "SFo": random_decimal(source)} for record in records]

@@ -22,7 +22,8 @@ from second.promises import guideline_faults, sum_faults
 from second.sites import site
 from second.sums import sums
 from second.terms import CHEMICAL, CONTAMINANT_VALUES, SCENARIO_FACTORS
-from site_example import EXAMPLE_TEXT, TRITIUM_TEXT, example_case, example_site, tritium_case, tritium_site
+from site_example import (EXAMPLE_TEXT, SKIN_TEXT, TRITIUM_TEXT, example_case, example_site, skin_case, skin_site, tritium_case,
+                          tritium_site)
 from site_frames import filled
 from site_maker import sites
 from site_naming import family_of, planned
@@ -159,7 +160,7 @@ def writers_wrong():
     for what, out, answer, number in itertools.chain(header_writings(), contaminant_writings()):
         if answer != (number, out):
             yield what
-    for case, length in itertools.product((example_case(), tritium_case()), (512, 513, 1024)):
+    for case, length in itertools.product((example_case(), tritium_case(), skin_case()), (512, 513, 1024)):
         out = filled(length)
         if write_header(out, 2, 120, case.scenario) != (ACCEPTED, header_block(2, 120, case.scenario) + out[BLOCK:]):
             yield f"header in {length} bytes"
@@ -170,7 +171,8 @@ def writers_wrong():
 def example_wrong():
     """The text that the specification prints for its examples, and the lengths that it names."""
     example = example_site()
-    for what, given, text in (("example", example, EXAMPLE_TEXT), ("example of tritium", tritium_site(), TRITIUM_TEXT)):
+    for what, given, text in (("example", example, EXAMPLE_TEXT), ("example of tritium", tritium_site(), TRITIUM_TEXT),
+                              ("example of soil on skin", skin_site(), SKIN_TEXT)):
         if listing(given) != text:
             yield f"the {what} prints\n{listing(given)}"
     for given, text in ((example[:1023], f"refused {LENGTH} block 0\n"), (example + bytes(BLOCK), "refused 5 block 0\n")):

@@ -3,9 +3,11 @@ import itertools
 import random
 
 import published
-from guideline_records import HARD_NUMBERS, HOUSE_FACTORS, REQUIRED, Case, moved, random_case, uncapped, with_carry
-from second.decimals import ZERO, Decimal
-from second.terms import CHEMICAL, CONTAMINANT_VALUES, SCENARIO_FACTORS, SOIL, TRITIUM, WATER
+from guideline_records import (AGES, HARD_NUMBERS, HOUSE_FACTORS, NOT_ON_SKIN, ON_SKIN, REQUIRED, Case, moved, random_case, uncapped,
+                               with_carry, with_carry_on_skin)
+from second.decimals import DOWN, UP, ZERO, Decimal
+from second.terms import CHEMICAL, CONTAMINANT_VALUES, SOIL, TRITIUM, WATER, inputs_of, rounded_factor
+from site_parts import TWO_AGES
 
 SEED = 20261115
 RANDOM_CASES = 60
@@ -22,7 +24,7 @@ DEPENDS_ON = {
 
 
 def full_case(medium, klass):
-    """A case in which every factor is known."""
+    """A case in which every factor is known but those of soil on skin."""
     scenario = {
         "EF": Decimal(250, 0), "ED": Decimal(25, 0), "BW": Decimal(70, 0), "AT": Decimal(70, 0), "IR": Decimal(50, 0),
         "IRA": Decimal(20, 0), "PEF": Decimal(428, 7), "ET": Decimal(8, 0), "RF": Decimal(8, -1),
@@ -44,6 +46,23 @@ def unit_case(risk, hazard, saturation):
     return full_case(SOIL, CHEMICAL).changed(EF=Decimal(365, 0), PEF=ZERO, TR=risk, THI=hazard, Csat=saturation, **ones)
 
 
+def skin_case():
+    """A chemical in soil in which every factor is known, with two ages, AF and ABS."""
+    return full_case(SOIL, CHEMICAL).changed(**TWO_AGES, ABS=Decimal(13, -2))
+
+
+def skin_alone(case):
+    """The case without ingestion and inhalation."""
+    return case.changed(IR=ZERO, IRA=ZERO)
+
+
+def unit_skin_case():
+    """Soil on skin alone, with every other factor 1 and targets of nine digits, so that its guideline shows each unit of G."""
+    ones = dict.fromkeys((*ON_SKIN, "SFo", "RfDo", "C"), Decimal(1, 0))
+    return skin_alone(skin_case()).changed(**ones, **dict.fromkeys(("AT", "ED"), Decimal(3, 0)),
+                                           **dict.fromkeys(("TR", "THI"), Decimal(987_654_321, -8)))
+
+
 def missing_values():
     """Every combination of missing values for each medium and class, then every combination of missing factors."""
     for (medium, klass), groups in DEPENDS_ON.items():
@@ -63,16 +82,15 @@ def extreme_decimals():
     for medium, klass in DEPENDS_ON:
         case = full_case(medium, klass)
         for d in (Decimal(1, -20), Decimal(999_999_999, 20), Decimal(1, 20), Decimal(999_999_999, -20)):
-            yield case.changed(**{name: d for name in SCENARIO_FACTORS + CONTAMINANT_VALUES})
+            yield case.changed(**{name: d for name in NOT_ON_SKIN})
             yield case.changed(**{name: d for name in ("TR", "THI")})
-            yield case.changed(**{name: d for name in CONTAMINANT_VALUES})
-            yield case.changed(**{name: d for name in SCENARIO_FACTORS if name not in ("TR", "THI")})
+            yield case.changed(**{name: d for name in NOT_ON_SKIN if name in CONTAMINANT_VALUES})
+            yield case.changed(**{name: d for name in NOT_ON_SKIN if name not in ("TR", "THI", *CONTAMINANT_VALUES)})
             if (medium, klass) == (SOIL, CHEMICAL):
-                yield case.changed(**{name: d for name in SCENARIO_FACTORS + CONTAMINANT_VALUES if name != "Csat"}, Csat=ZERO)
+                yield case.changed(**{name: d for name in NOT_ON_SKIN if name != "Csat"}, Csat=ZERO)
         for shift in (1, 4):
             decimals = {**case.scenario, **case.record}
-            del decimals["class"], decimals["id"]
-            yield case.changed(**{name: same_value(d, shift) for name, d in decimals.items()})
+            yield case.changed(**{name: same_value(decimals[name], shift) for name in NOT_ON_SKIN})
 
 
 def extreme_houses():
@@ -92,7 +110,7 @@ def hard_roundings(source):
 
     There is no saturation, which would hide them.
     """
-    names = [name for name in SCENARIO_FACTORS + CONTAMINANT_VALUES if name != "Csat"]
+    names = [name for name in NOT_ON_SKIN if name != "Csat"]
     for medium, klass in DEPENDS_ON:
         case = full_case(medium, klass).changed(Csat=ZERO)
         for m in HARD_NUMBERS[:3]:
@@ -167,13 +185,95 @@ def idle_saturation():
             yield case.changed(Csat=Decimal(1_000_000_000, 0), L=ZERO)
 
 
+def missing_on_skin():
+    """Each decimal of soil on skin missing, several at once, and all but one, where it is the only pathway; nothing missing beside it."""
+    yield skin_case()
+    missing = [(name,) for name in ("SFo", "RfDo", *ON_SKIN)] + [("SFo", "RfDo"), AGES["child"], AGES["adult"]]
+    missing += [*zip(*AGES.values()), ("childSA", "adultBW"), (*AGES["child"], "RfDo"), (*AGES["adult"], "SFo")]
+    missing += [[name for name in ON_SKIN if name != known] for known in ("AF", "ABS")]
+    for names in missing:
+        yield skin_alone(skin_case()).changed(**dict.fromkeys(names, ZERO))
+    # Beside the other pathways what is missing leaves these as they are.
+    for names in (("ABS",), ("childBW", "adultED"), ("SFo",), ("IR",), ("IRA",)):
+        yield skin_case().changed(**dict.fromkeys(names, ZERO))
+
+
+# The factors after the stroke of a chemical in soil, and those that B has there.
+DIVIDED_BY = ("ED", "BW", "AT", "RfDo", "RfDi", "VF", "PEF")
+
+
+def extreme_on_skin():
+    """Soil on skin and its G at their ends, with one age or both, and one value written in several ways."""
+    least, greatest = Decimal(1, -20), Decimal(999_999_999, 20)
+    weights = tuple(AGES[age][-1] for age in AGES)
+    for d, under in ((least, greatest), (greatest, least)):
+        case = skin_case().changed(**dict.fromkeys(ON_SKIN, d))
+        yield case
+        yield case.changed(**dict.fromkeys(weights, under))
+        yield case.changed(**dict.fromkeys((*NOT_ON_SKIN, *ON_SKIN), d))
+        ends = {**dict.fromkeys((*NOT_ON_SKIN, *ON_SKIN), d), **dict.fromkeys((*weights, *DIVIDED_BY), under)}
+        yield case.changed(**{**ends, "Csat": ZERO})
+        yield case.changed(**dict.fromkeys(AGES["adult"], under))
+        yield skin_case().changed(**{**dict.fromkeys(AGES["child"], d), "childBW": under}, **dict.fromkeys(AGES["adult"], ZERO))
+    for shift in (1, 5):
+        case = skin_case()
+        decimals = {**case.scenario, **case.record}
+        yield case.changed(**{name: same_value(decimals[name], shift) for name in ON_SKIN})
+
+
+def hard_ages(source):
+    """Soil on skin alone, without end, with a G that is not the same up and down and of which each unit shows in the guidelines.
+
+    The quotients of the ages never end, or their sum has more than nine digits, or one age is alone; in a third of the cases the other
+    factors have nine digits as well.
+    """
+    numbers = [m for m in HARD_NUMBERS if m >= 10**8]
+
+    def hard(names):
+        return {name: Decimal(source.choice((*numbers, source.randint(10**8, 10**9 - 1))), source.choice((-8, -8, -8, -9)))
+                for name in names}
+
+    while True:
+        ages = hard((*AGES["child"], *AGES["adult"]))
+        ages.update({names[-1]: Decimal(source.choice((3, 7, 15, 16, 70)), 0) for names in AGES.values() if source.randrange(2)})
+        if source.randrange(4) == 0:
+            ages[source.choice(list(ages))] = ZERO
+        case = unit_skin_case().changed(**ages, **(hard(("SFo", "ABS", "AF", "RfDo", "ED", "AT")) if source.randrange(3) == 0 else {}))
+        up, down = (rounded_factor("G", inputs_of(case.scenario, case.record), direction) for direction in (UP, DOWN))
+        if up != down and up.m < 2 * 10**8:
+            yield case
+
+
+def uneven_ages():
+    """An age whose part of G is tiny beside the other's, and a sum of parts that is the next power of ten."""
+    for m, (age, other) in itertools.product((999_999_999, 100_000_000), (("child", "adult"), ("adult", "child"))):
+        yield unit_skin_case().changed(**{age + "SA": Decimal(m, 0), other + "SA": Decimal(1, -20)})
+
+
+def ignored_on_skin():
+    """The decimals of soil on skin where no pathway names them: they move nothing, but each keeps its rule."""
+    for place, (medium, klass) in enumerate(kind for kind in DEPENDS_ON if kind != (SOIL, CHEMICAL)):
+        case = full_case(medium, klass).changed(**dict.fromkeys(ON_SKIN, Decimal(999_999_999, 20)))
+        yield case
+        yield case.changed(**{ON_SKIN[3 * place]: Decimal(0, 1)})
+        yield case.changed(**dict.fromkeys([name for name in CONTAMINANT_VALUES if name != "ABS"], ZERO))
+
+
+def capped_on_skin():
+    """A saturation far below every guideline caps inhalation alone; where inhalation is absent it caps nothing."""
+    for names in ((), ("IR",), ("IRA",), ("SFi",), ("IR", "IRA")):
+        yield skin_case().changed(**dict.fromkeys(names, ZERO), Csat=Decimal(1, -20))
+
+
 def refused_fields():
     """Refusal 4 in each decimal, in the medium, the class and the id; refusal 6 in each required factor."""
     faults = (Decimal(1_000_000_000, 0), Decimal(1, 21), Decimal(1, -21), Decimal(0, 1))
     case = full_case(1, 1)
-    for name in SCENARIO_FACTORS + CONTAMINANT_VALUES:
+    for name in NOT_ON_SKIN:
         for fault in faults:
             yield case.changed(**{name: fault})
+    for place, name in enumerate(ON_SKIN):
+        yield case.changed(**{name: faults[place % 4]})
     for medium, klass in ((0, 0), (3, 4), (2**32 - 1, 2**32 - 1)):
         yield case.changed(medium=medium)
         yield case.changed(**{"class": klass})
@@ -234,6 +334,13 @@ def all_cases():
     cases += beside_saturation()
     cases += far_saturation()
     cases += idle_saturation()
+    cases += missing_on_skin()
+    cases += extreme_on_skin()
+    cases += itertools.islice(hard_ages(source), 14)
+    cases += (with_carry_on_skin(skin_case().changed(Csat=ZERO), source) for _ in range(6))
+    cases += uneven_ages()
+    cases += ignored_on_skin()
+    cases += capped_on_skin()
     cases += refused_fields()
     cases += without_house()
     cases += two_faults()

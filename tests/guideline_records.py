@@ -6,12 +6,17 @@ from second.terms import CHEMICAL, CONTAMINANT_VALUES, RADIONUCLIDE, SCENARIO_FA
 REQUIRED = ("EF", "ED", "BW", "AT", "TR", "THI")
 # What a scenario needs as well where the class is tritium.
 HOUSE_FACTORS = ("L", "W")
+# The decimals that soil on skin needs and no other pathway names: the four of each age, AF and ABS; and all other decimals.
+AGES = {age: tuple(age + factor for factor in ("SA", "EF", "ED", "BW")) for age in ("child", "adult")}
+ON_SKIN = (*AGES["child"], *AGES["adult"], "AF", "ABS")
+NOT_ON_SKIN = tuple(name for name in SCENARIO_FACTORS + CONTAMINANT_VALUES if name not in ON_SKIN)
 # Factors whose products and quotients fall just beside a power of ten or never end.
 HARD_NUMBERS = (999_999_999, 100_000_001, 333_333_334, 100_000_000, 333_333_333, 666_666_667, 1, 3, 7)
 
-# The first two factors of a product of the terms, and of the products that stand in tritium's H alone.
+# The first two factors of a product of the terms, and of the products that stand in tritium's H alone; those of soil on skin and its G.
 MULTIPLIED_FIRST = (("SFo", "IR"), ("SFi", "IRA"), ("SFx", "ET"), ("SFo", "SA"), ("BW", "AT"), ("RfDo", "BW"))
 MULTIPLIED_IN_H = (("F", "N"), ("L", "W"))
+MULTIPLIED_ON_SKIN = (("SFo", "ABS"), ("ABS", "AF"), ("RfDo", "ED"), ("childSA", "childEF"), ("adultSA", "adultEF"))
 
 
 class Case:
@@ -79,11 +84,26 @@ def with_carry(case, random):
     in_h = case.record["class"] == TRITIUM and random.randrange(2)
     names = random.choice(MULTIPLIED_IN_H if in_h else MULTIPLIED_FIRST)
     if random.randrange(2):
-        others = [name for name in SCENARIO_FACTORS + ("VF", "PC") if name not in ("TR", "THI")]
+        others = [name for name in (*SCENARIO_FACTORS, "VF", "PC") if name not in ("TR", "THI", *ON_SKIN)]
         case = case.changed(**{name: Decimal(1, 0) for name in others})
         case = case.changed(TR=Decimal(999_999_999, -8), THI=Decimal(999_999_999, -8), Csat=ZERO)
     case = case.changed(**dict(zip(names, just_below_power(random))))
     return case.changed(ET=ZERO) if in_h else case
+
+
+def with_carry_on_skin(case, random):
+    """The case of a chemical in soil with a product of soil on skin that rounds up to a power of ten, and with one age alone.
+
+    In half of them the other factors are 1 and no other pathway is there, so that the guideline of a side shows the carry.
+    """
+    names = random.choice(MULTIPLIED_ON_SKIN)
+    gone = "adult" if names[0] in AGES["child"] else "child"
+    if random.randrange(2):
+        ones = [name for name in (*NOT_ON_SKIN, *ON_SKIN) if name not in ("TR", "THI", "IR", "IRA", "C", "Csat")]
+        case = case.changed(**dict.fromkeys(ones, Decimal(1, 0)), IR=ZERO, IRA=ZERO, Csat=ZERO)
+        case = case.changed(TR=Decimal(999_999_999, -8), THI=Decimal(999_999_999, -8))
+    case = case.changed(**dict.fromkeys(AGES[gone], ZERO))
+    return case.changed(**dict(zip(names, just_below_power(random))))
 
 
 def with_saturation_near(case, random):
@@ -113,31 +133,36 @@ def random_classes(random):
     return (CHEMICAL, RADIONUCLIDE, TRITIUM) if random.randrange(12) == 0 else random.choice(apart)
 
 
-def random_valid_case(random, classes=(CHEMICAL, RADIONUCLIDE, TRITIUM)):
+def random_valid_case(random, classes=(CHEMICAL, RADIONUCLIDE, TRITIUM), on_skin=None):
     """Each value that may be zero is zero in about one case of six, the saturation in one of two.
 
-    Tritium is in water, and its scenario has a house.
+    Tritium is in water, and its scenario has a house. Where it is not said whether the case is on skin, it is in two of five: in the
+    others the decimals of soil on skin are all zero.
     """
     klass = random.choice(classes)
     needed = REQUIRED + HOUSE_FACTORS if klass == TRITIUM else REQUIRED
+    on_skin = random.randrange(5) < 2 if on_skin is None else on_skin
+    absent = () if on_skin else ON_SKIN
 
     def value(name):
-        return ZERO if name not in needed and random.randrange(2 if name == "Csat" else 6) == 0 else random_decimal(random)
+        if name in absent or name not in needed and random.randrange(2 if name == "Csat" else 6) == 0:
+            return ZERO
+        return random_decimal(random)
 
     record = {name: value(name) for name in CONTAMINANT_VALUES}
     record.update({"class": klass, "id": random.choice((1, 2**32 - 1, random.randint(1, 2**32 - 1)))})
     medium = WATER if klass == TRITIUM else random.choice((SOIL, WATER))
     case = Case(medium, {name: value(name) for name in SCENARIO_FACTORS}, record)
     if random.randrange(4) == 0:
-        return with_carry(case, random)
+        return (with_carry_on_skin if (medium, klass, on_skin) == (SOIL, CHEMICAL, True) else with_carry)(case, random)
     if (medium, klass) == (SOIL, CHEMICAL) and random.randrange(3) == 0:
         return with_saturation_near(case, random)
     return case
 
 
-def random_case(random, classes=(CHEMICAL, RADIONUCLIDE, TRITIUM)):
+def random_case(random, classes=(CHEMICAL, RADIONUCLIDE, TRITIUM), on_skin=None):
     """Most cases keep every rule; one in five breaks one to three."""
-    case = random_valid_case(random, classes)
+    case = random_valid_case(random, classes, on_skin)
     if random.randrange(5):
         return case
     for _ in range(random.randint(1, 3)):

@@ -13,9 +13,10 @@ import pathlib
 import sys
 
 from check_sites import site_wrong
+from guideline_records import ON_SKIN
 from second.listing import text_of
 from second.sites import site
-from site_example import EXAMPLE_TEXT, example_site, tritium_site
+from site_example import EXAMPLE_TEXT, example_site, skin_site, tritium_site
 from site_faults import BROKEN_FIELDS
 from site_frames import case_frame, filled, number_of
 from site_maker import FAMILIES, family_sites, one_fault
@@ -32,7 +33,9 @@ NUMBERS = {"missing_values": 30, "missing_factors": 22, "near_target": 24, "near
            "extreme_decimals": 14, "hard_roundings": 12, "zero_concentrations": 10, "plausible_sites": 10, "two_in_one_block": 22,
            "faults_in_two_blocks": 8, "lengths": 44, "small_shares": 4, "many_blocks": 2, "id_orders": 10, "missing_house": 24,
            "mixed_classes": 14, "mixed_in_many": 2, "without_house": 12, "tritium_in_soil": 12, "near_saturation": 8,
-           "exact_saturations": 10, "capped_sides": 8, "absent_inhalation": 10, "ignored_saturation": 16}
+           "exact_saturations": 10, "capped_sides": 8, "absent_inhalation": 10, "ignored_saturation": 16,
+           "missing_on_skin": 5, "one_age": 3, "hard_ages_in_sites": 4, "near_on_skin": 3, "capped_on_skin": 2, "ignored_on_skin": 3,
+           "extreme_on_skin": 2}
 LENGTHS = {"many_blocks": 4608, "mixed_classes": 3072, "mixed_in_many": 4608}
 # Sites that are stored though they are long: the longest that has a right length, and one block more.
 LONG = ("lengths: 61952 bytes, longest; accepted", "lengths: 62464 bytes, cut; refused 1 block 0")
@@ -51,13 +54,16 @@ def first_sites(family):
 def stored_for(name, given):
     """What a site with one fault is stored for: a long site for its refusal and block, a short one for its fault.
 
-    Of the faults of decimals one of each sort is enough, whichever the decimal.
+    Of the faults of decimals one of each sort is enough, whichever the decimal; of those in the two zero bytes, which no stored call
+    has, there is one for each decimal of soil on skin as well.
     """
     if len(given) > 1024:
         return planned(name)
     fault = name.partition(": ")[2]
-    sort = fault.partition(" ")[2].partition(";")[0]
-    return sort if sort in BROKEN_FIELDS else fault
+    decimal, _, sort = fault.partition(";")[0].partition(" ")
+    if sort not in BROKEN_FIELDS:
+        return fault
+    return decimal if decimal in ON_SKIN and "zero byte" in sort else sort
 
 
 def fault_sites():
@@ -70,7 +76,7 @@ def fault_sites():
 
 def chosen():
     """The examples of the specification, then sites of each family."""
-    for what, given in (("the specification", example_site()), ("tritium in water", tritium_site())):
+    for what, given in (("the specification", example_site()), ("tritium in water", tritium_site()), ("soil on skin", skin_site())):
         yield f"example: {what}; accepted", given, len(given)
     for family, _ in FAMILIES:
         yield from fault_sites() if family is one_fault else first_sites(family)

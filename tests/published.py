@@ -1,8 +1,9 @@
-"""Compares the second calculation with the guideline values that the source documents print.
+"""Compares the second calculation with the guideline values and the intake factors that the source documents print.
 
     python3 tests/published.py
 
-A computed guideline agrees when it lies in the half-unit interval of the last printed digit.
+A computed guideline agrees when it lies in the half-unit interval of the last printed digit. An intake factor is a term without its
+slope factor, reference dose and absorbed fraction: where these and the target are 1, the guideline is one over it.
 """
 import json
 import pathlib
@@ -40,10 +41,13 @@ def read():
 
 
 def agrees(entry, computed):
+    if computed.m == 0:
+        return False
+    worth = 1 / value(computed) if entry.get("prints") == "intake factor" else value(computed)
     printed = Fraction(entry["published_01_units"])
     # exponent_of leaves nine digits before the point; the last printed one is the digits-th of them.
     unit = power_of_ten(exponent_of(printed) + 9 - entry["digits"])
-    return abs(value(computed) - printed) <= unit / 2
+    return abs(worth - printed) <= unit / 2
 
 
 def main():
@@ -54,7 +58,8 @@ def main():
         good = answer.refusal == 0 and agrees(entry, computed)
         agree, disagree = agree + good, disagree + (not good)
         word = "agrees" if good else "DISAGREES"
-        print(f"{entry['id']}: printed {entry['published_01_units']}, computed {computed.m}e{computed.e}, {word}")
+        what = "one over" if entry.get("prints") == "intake factor" else "computed"
+        print(f"{entry['id']}: printed {entry['published_01_units']}, {what} {computed.m}e{computed.e}, {word}")
     print(f"{agree} agree, {disagree} disagree")
     return 1 if disagree else 0
 

@@ -2,7 +2,7 @@
 from guideline_records import Case
 from second.blocks import BLOCK, write_contaminant, write_header
 from second.decimals import Decimal
-from second.terms import TRITIUM, WATER
+from second.terms import SOIL, TRITIUM, WATER
 from site_parts import PERSON, SCENARIOS, WITH_HOUSE
 
 EXAMPLE_TEXT = """\
@@ -15,6 +15,12 @@ TRITIUM_TEXT = """\
 1 risk 6.61375661E+2 6.68791421E+4 2.77918126E+5 6.53359672E+2
 sum risk 7.65275260E-7 7.65275270E-7 within
 sum hazard - - none
+"""
+SKIN_TEXT = """\
+1 risk 5.72319997E+0 - 1.45170454E+0 1.15797992E+0
+1 hazard 4.08799998E+4 - 1.03693181E+4 8.27128518E+3
+sum risk 0 0 within
+sum hazard 0 0 within
 """
 
 
@@ -31,6 +37,15 @@ def tritium_case():
     return Case(WATER, {**PERSON, **scenario}, record)
 
 
+def skin_case():
+    """Scenario 1 in soil with a child and an adult; one chemical, id 1, SFo 1, RfDo 0.02, ABS 0.1, others zero."""
+    ages = {"childSA": Decimal(2000, 0), "childEF": Decimal(350, 0), "childED": Decimal(6, 0), "childBW": Decimal(15, 0),
+            "adultSA": Decimal(5000, 0), "adultEF": Decimal(350, 0), "adultED": Decimal(24, 0), "adultBW": Decimal(70, 0),
+            "AF": Decimal(2, -1)}
+    record = {"class": 1, "id": 1, "SFo": Decimal(1, 0), "RfDo": Decimal(2, -2), "ABS": Decimal(1, -1)}
+    return Case(SOIL, {**PERSON, **SCENARIOS[0], **ages}, record)
+
+
 def site_of(case):
     header = write_header(bytes(BLOCK), case.medium, 1, case.scenario)
     contaminant = write_contaminant(bytes(BLOCK), 1, case.record)
@@ -44,3 +59,7 @@ def example_site():
 
 def tritium_site():
     return site_of(tritium_case())
+
+
+def skin_site():
+    return site_of(skin_case())

@@ -3,9 +3,9 @@ import struct
 from typing import Callable, NamedTuple
 
 from guideline_records import REQUIRED
-from second.blocks import CONTAMINANT, FIELDS, HEADER, LAST_WORD, WORD, with_last_word, word
+from second.blocks import (CONTAMINANT, CONTAMINANT_PLACES, HEADER, HEADER_PLACES, LAST_WORD, WORD, between_fields, with_last_word,
+                           word)
 from second.guideline import CHECK, COUNT, FACTOR, FIELD, HOUSE, KIND, ORDER, PATHWAY
-from second.terms import CONTAMINANT_VALUES, SCENARIO_FACTORS
 
 # Fields that break the rule of a decimal: m, e in two's complement, the two bytes that have to be zero.
 BROKEN_FIELDS = {
@@ -30,18 +30,18 @@ BROKEN_FIELDS = {
 
 # Values that the pathways of a medium and class do not use, or not without others: alone they make no pathway.
 UNNEEDED = {
-    (1, 1): ("SFx", "VF", "PC", "C", "Csat"),
-    (1, 2): ("RfDo", "RfDi", "VF", "PC", "C", "Csat"),
-    (2, 1): ("SFx", "VF", "PC", "C", "Csat"),
-    (2, 2): ("SFi", "SFx", "RfDo", "RfDi", "VF", "PC", "C", "Csat"),
-    (2, 3): ("SFx", "RfDo", "RfDi", "VF", "PC", "C", "Csat"),
+    (1, 1): ("SFx", "VF", "PC", "C", "Csat", "ABS"),
+    (1, 2): ("RfDo", "RfDi", "VF", "PC", "C", "Csat", "ABS"),
+    (2, 1): ("SFx", "VF", "PC", "C", "Csat", "ABS"),
+    (2, 2): ("SFi", "SFx", "RfDo", "RfDi", "VF", "PC", "C", "Csat", "ABS"),
+    (2, 3): ("SFx", "RfDo", "RfDi", "VF", "PC", "C", "Csat", "ABS"),
 }
 
 # Words that are no medium and no class, whatever their low bytes are.
 NO_MEDIUM = (0, 3, 257, 258, 1 + 2**16, 2 + 2**24, 1 + 2**31, WORD - 1)
 NO_CLASS = (0, 4, 257, 258, 259, 1 + 2**16, 3 + 2**16, 2 + 2**24, 1 + 2**31, 3 + 2**31, WORD - 1)
-# Places of bytes beside the ends of the fields, and further on; those behind a block's last field are unused.
-FIELD_ENDS = (88, 89, 92, 95, 100, 111, 112, 176, 177, 180, 183, 191, 200, 300, 504, LAST_WORD - 1)
+# Bytes beside the ends of the fields of a block, and further on; each is unused in a block of which no field holds it.
+FIELD_ENDS = (88, 89, 92, 95, 100, 111, 120, 176, 177, 180, 183, 191, 199, 200, 271, 272, 300, 504, LAST_WORD - 1)
 
 
 class Fault(NamedTuple):
@@ -72,10 +72,10 @@ def add_to_words(places, number):
     return change
 
 
-def zero_fields(numbers):
+def zero_fields(places):
     def change(block):
-        for number in numbers:
-            block = put(FIELDS + 8 * number, bytes(8))(block)
+        for at in places:
+            block = put(at, bytes(8))(block)
         return block
     return change
 
@@ -85,22 +85,22 @@ def frame_faults(place, kind):
     for more in (1, 256, 2**16, 2**31, WORD - 1):
         yield Fault(CHECK, f"last word plus {more}", add_to_words([LAST_WORD], more), True)
     # The words added bit by bit without a carry would still give zero.
-    yield Fault(CHECK, "one bit set in each of two unused words", add_to_words([200, 300], 1), True)
+    yield Fault(CHECK, "one bit set in each of two unused words", add_to_words([280, 300], 1), True)
     for wrong in sorted({0, abs(place - 1), place + 1, place + 256, place + 2**16, place + 2**31, WORD - 1} - {place}):
         yield Fault(CHECK, f"place {wrong}", put_word(4, wrong))
     for wrong in (0, HEADER + CONTAMINANT - kind, 3, 4, kind + 256, kind + 2**16, kind + 2**31, WORD - 1):
         yield Fault(KIND, f"kind {wrong}", put_word(0, wrong))
 
 
-def field_faults(names, word_at_8, wrong_words):
+def field_faults(places, word_at_8, wrong_words):
     """Refusal 4: decimals, the medium or class, unused bytes."""
-    for number, name in enumerate(names):
+    for name, at in places.items():
         for fault, field in BROKEN_FIELDS.items():
-            yield Fault(FIELD, f"{name} {fault}", put(FIELDS + 8 * number, struct.pack("<IhH", *field)))
+            yield Fault(FIELD, f"{name} {fault}", put(at, struct.pack("<IhH", *field)))
     for wrong in wrong_words:
         yield Fault(FIELD, f"{word_at_8} {wrong}", put_word(8, wrong))
-    for at in FIELD_ENDS:
-        if at >= FIELDS + 8 * len(names):
+    for at in between_fields(places.values()):
+        if at in FIELD_ENDS:
             yield Fault(FIELD, f"unused byte {at} set", put(at, bytes([1 if at % 2 else 255])))
 
 
@@ -113,7 +113,7 @@ def count_faults(count):
 def factor_faults():
     """Refusal 6."""
     for name in REQUIRED:
-        yield Fault(FACTOR, f"{name} zero", zero_fields([SCENARIO_FACTORS.index(name)]))
+        yield Fault(FACTOR, f"{name} zero", zero_fields([HEADER_PLACES[name]]))
 
 
 def order_faults(previous_id):
@@ -124,9 +124,9 @@ def order_faults(previous_id):
 
 def pathway_faults(medium, klass):
     """Refusal 8."""
-    for kept in ((), ("C",), ("Csat",), UNNEEDED[medium, klass]):
-        numbers = [number for number, name in enumerate(CONTAMINANT_VALUES) if name not in kept]
-        yield Fault(PATHWAY, f"known: {' '.join(kept) or 'nothing'}", zero_fields(numbers))
+    for kept in ((), ("C",), ("Csat",), ("ABS",), UNNEEDED[medium, klass]):
+        places = [at for name, at in CONTAMINANT_PLACES.items() if name not in kept]
+        yield Fault(PATHWAY, f"known: {' '.join(kept) or 'nothing'}", zero_fields(places))
 
 
 def house_faults(klass):
@@ -136,7 +136,7 @@ def house_faults(klass):
 
 def header_faults(count):
     yield from frame_faults(0, HEADER)
-    yield from field_faults(SCENARIO_FACTORS, "medium", NO_MEDIUM)
+    yield from field_faults(HEADER_PLACES, "medium", NO_MEDIUM)
     yield from count_faults(count)
     yield from factor_faults()
 
@@ -147,7 +147,7 @@ def contaminant_faults(place, medium, klass, previous_id, impossible_class):
     A fault of that class comes last, so that every other one has the same number in each site.
     """
     yield from frame_faults(place, CONTAMINANT)
-    yield from field_faults(CONTAMINANT_VALUES, "class", NO_CLASS)
+    yield from field_faults(CONTAMINANT_PLACES, "class", NO_CLASS)
     yield Fault(FIELD, "id 0", put_word(12, 0))
     if previous_id is not None:
         yield from order_faults(previous_id)

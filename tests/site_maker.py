@@ -9,32 +9,31 @@ name begins with its family. Where the maker knows what has to be sent back the 
 import itertools
 import random
 
-from guideline_records import (HARD_NUMBERS, HOUSE_FACTORS, Case, moved, random_classes, random_decimal, random_valid_case,
-                               with_carry)
+from guideline_records import (HARD_NUMBERS, HOUSE_FACTORS, NOT_ON_SKIN, ON_SKIN, Case, random_classes, random_decimal,
+                               random_valid_case, with_carry)
 from house_sites import missing_house, mixed_classes, mixed_in_many, tritium_in_soil, without_house
 from saturation_sites import absent_inhalation, capped_sides, exact_saturations, ignored_saturation, near_saturation
-from second.blocks import BLOCK, FIELDS, WORD, with_last_word, word
-from second.decimals import DOWN, UP, ZERO, Decimal, keeps_input_rule, rounded, value
-from second.guideline import CHECK, COUNT, KIND, LENGTH, ORDER, ROOM, TARGET
+from second.blocks import BLOCK, CONTAMINANT_PLACES, HEADER_PLACES, WORD, with_last_word, word
+from second.decimals import ZERO, Decimal
+from second.guideline import CHECK, COUNT, KIND, LENGTH, ORDER, ROOM
 from second.sites import LONGEST
-from second.sums import sums
-from second.terms import (CHEMICAL, CONTAMINANT_VALUES, RADIONUCLIDE, RISK, SCENARIO_FACTORS, SIDES, TRITIUM, WATER, exact_term_sum,
-                          has_pathway, inputs_of)
+from second.terms import CHEMICAL, CONTAMINANT_VALUES, RADIONUCLIDE, RISK, SIDES, TRITIUM, WATER
 from site_faults import BROKEN_FIELDS, are_apart, put_word
 from site_naming import any_room, interleaved, lent, refusal, room_for, short_room, shuffled
-from site_parts import (CLASSES, KINDS, MEDIA, ONE, Site, full_site, plausible_site, quick_site, some_ids, with_decimals,
-                        written_shorter)
+from site_parts import CLASSES, KINDS, MEDIA, ONE, Site, full_site, plausible_site, quick_site, some_ids, with_decimals
+from site_targets import BESIDE_SUMS, with_concentrations_near, with_targets_near
+from skin_sites import capped_on_skin, extreme_on_skin, hard_ages_in_sites, ignored_on_skin, missing_on_skin, near_on_skin, one_age
 
 
 # The refusals that can be made in a block at each place of a short site, in the order of their tests.
 IN_BLOCK = {0: (2, 3, 4, 5, 6), 1: (2, 3, 4, 12, 8), **dict.fromkeys((2, 3), (2, 3, 4, 7, 12, 8))}
-# Where the fields of a header end, and those of a contaminant.
-HEADER_END, CONTAMINANT_END = (FIELDS + 8 * len(names) for names in (SCENARIO_FACTORS, CONTAMINANT_VALUES))
+# Where the last field of a header ends, and that of a contaminant.
+HEADER_END, CONTAMINANT_END = (max(places.values()) + 8 for places in (HEADER_PLACES, CONTAMINANT_PLACES))
 
 
 def missing_values(source):
     """Every combination of missing toxicity values for each medium and class, alone or after a sound record."""
-    names = [name for name in CONTAMINANT_VALUES if name not in ("C", "Csat")]
+    names = [name for name in CONTAMINANT_VALUES if name not in ("C", "Csat", "ABS")]
     for (medium, klass), known in shuffled(source, itertools.product(KINDS, itertools.product((True, False), repeat=7))):
         site = full_site(source, source.choice((1, 1, 2)), medium, klass)
         site.records[-1].update({name: ZERO for name, is_known in zip(names, known) if not is_known})
@@ -57,11 +56,11 @@ def missing_factors(source):
 
 
 def extreme_decimals(source):
-    """The least and greatest inputs, in one place and in many, and values written with trailing zeros."""
-    everything = SCENARIO_FACTORS + CONTAMINANT_VALUES
-    groups = [(name,) for name in everything]
-    others = tuple(name for name in SCENARIO_FACTORS if name not in ("TR", "THI"))
-    groups += [everything, ("TR", "THI"), CONTAMINANT_VALUES, others, ("F", "N", "S", "V"), HOUSE_FACTORS]
+    """The least and greatest inputs, in one place and in many, and values written with trailing zeros: soil on skin stays as it is."""
+    groups = [(name,) for name in NOT_ON_SKIN]
+    values = tuple(name for name in NOT_ON_SKIN if name in CONTAMINANT_VALUES)
+    others = tuple(name for name in NOT_ON_SKIN if name not in ("TR", "THI", *CONTAMINANT_VALUES))
+    groups += [NOT_ON_SKIN, ("TR", "THI"), values, others, ("F", "N", "S", "V"), HOUSE_FACTORS]
     extremes = [Decimal(1, -20), Decimal(1, 20), Decimal(999_999_999, -20), Decimal(999_999_999, 20), Decimal(1000, -3)]
     for names, d in shuffled(source, itertools.product(groups, extremes)):
         site = with_decimals(full_site(source, source.choice((1, 2))), {name: d for name in names})
@@ -69,77 +68,21 @@ def extreme_decimals(source):
         yield lent(source, f"extreme decimals: {what} {d.m}e{d.e}; accepted", site.content())
     while True:
         site = full_site(source, source.choice((1, 2, 3)))
-        names = source.sample(everything, source.randint(2, len(everything)))
+        names = source.sample(NOT_ON_SKIN, source.randint(2, len(NOT_ON_SKIN)))
         with_decimals(site, {name: source.choice(extremes) for name in names})
         yield lent(source, f"extreme decimals: any, {len(names)}; accepted", site.content())
 
 
-def exact_sum(site, side):
-    """The exact sum of the list on a side."""
-    parts = (value(r["C"]) * exact_term_sum(site.medium, r["class"], side, inputs_of(site.scenario, r)) for r in site.records)
-    return sum(parts)
-
-
-def targets_near(site, side):
-    """Targets beside the reported sums and the exact sum of a side, by name."""
-    answer = sums(site.scenario, site.medium, site.records)
-    at = 2 * SIDES.index(side)
-    lower, upper = answer.sums[at:at + 2]
-    exact = exact_sum(site, side)
-    return {
-        "one below lower": moved(lower, -1), "on lower": lower, "one above lower": moved(lower, 1),
-        "exact down": rounded(exact, DOWN), "exact up": rounded(exact, UP),
-        "one below upper": moved(upper, -1), "on upper": upper, "one above upper": moved(upper, 1),
-    }
-
-
-def with_targets_near(source, site, names):
-    """The site with each target that has a sum put beside it; None when such a target would break the input rule."""
-    for side, name in names.items():
-        if not any(has_pathway(site.medium, r["class"], side, inputs_of(site.scenario, r)) for r in site.records):
-            continue
-        target = targets_near(site, side)[name]
-        if target.m == 0 or not keeps_input_rule(target):
-            return None
-        site.scenario[TARGET[side]] = written_shorter(source, target)
-    return site
-
-
 def near_target(source):
     """The target put just below, on and just above the sums."""
-    places = ("one below lower", "on lower", "one above lower", "exact down", "exact up", "one below upper", "on upper",
-              "one above upper")
     listed = ((full_site(source, 1, *kind), dict.fromkeys(SIDES, place))
-              for kind, place in shuffled(source, itertools.product(KINDS, places)))
-    endless = ((plausible_site(source, source.choice((1, 2, 3, 3, 8))), {side: source.choice(places) for side in SIDES})
+              for kind, place in shuffled(source, itertools.product(KINDS, BESIDE_SUMS)))
+    endless = ((plausible_site(source, source.choice((1, 2, 3, 3, 8))), {side: source.choice(BESIDE_SUMS) for side in SIDES})
                for _ in itertools.count())
     for site, names in itertools.chain(listed, endless):
         site = with_targets_near(source, site, names)
         if site is not None:
             yield lent(source, f"near target: {', '.join(names.values())}; accepted", site.content())
-
-
-def with_concentrations_near(source, site, side):
-    """The site with concentrations for which the exact sum of the side comes close to the target, if they can be written.
-
-    The records that have a pathway there share the target, and the last one takes what is left, rounded to nine digits.
-    """
-    left = value(site.scenario[TARGET[side]])
-    having = [r for r in site.records if has_pathway(site.medium, r["class"], side, inputs_of(site.scenario, r))]
-    for record in having:
-        exact = exact_term_sum(site.medium, record["class"], side, inputs_of(site.scenario, record))
-        is_last = record is having[-1]
-        share = left if is_last else left / source.randint(2, 5)
-        c = rounded(share / exact, source.choice((DOWN, UP)))
-        if is_last:
-            c = moved(c, source.choice((-2, -1, 0, 0, 0, 1, 2)))
-        if not keeps_input_rule(c):
-            return None
-        record["C"] = written_shorter(source, c)
-        left -= value(c) * exact
-        if left <= 0:
-            break
-    return site if having else None
 
 
 def near_concentration(source):
@@ -154,7 +97,7 @@ def near_concentration(source):
 
 def exact_targets(source):
     """Terms that are exactly 1, so that the sum is the sum of the concentrations: on the target and beside it."""
-    ones = {name: ONE for name in SCENARIO_FACTORS}
+    ones = {name: ONE for name in NOT_ON_SKIN}
     lists = [[(100_000_000, -8)], [(999_999_999, -9)], [(1, 0)], [(1000, -3)], [(5, -1), (5, -1)], [(1, -1)] * 10,
              [(1, 0), (5, -9), (5, -9)], [(1, 0), (1, -20)], [(999_999_999, -9), (1, -9)],
              [(999_999_998, -9), (15, -10), (5, -10)]]
@@ -169,16 +112,20 @@ def exact_targets(source):
 def hard_roundings(source):
     """Factors of nine digits, factors whose quotients never end, and products that round up to a power of ten.
 
-    The saturation is no factor: it stays as it is.
+    The saturation is no factor: it stays as it is; so does what soil on skin needs where the site has none.
     """
-    values = [name for name in CONTAMINANT_VALUES if name != "Csat"]
+    def hard_names(site):
+        return [name for name in (*NOT_ON_SKIN, *(ON_SKIN if site.scenario["AF"] != ZERO else ())) if name != "Csat"]
+
     for m, kind in shuffled(source, itertools.product((999_999_999, 100_000_001, 333_333_334), KINDS)):
-        site = with_decimals(full_site(source, 1, *kind), {name: Decimal(m, -4) for name in (*SCENARIO_FACTORS, *values)})
+        site = full_site(source, 1, *kind)
+        site = with_decimals(site, {name: Decimal(m, -4) for name in hard_names(site)})
         yield lent(source, f"hard roundings: {m} throughout; accepted", site.content())
     while True:
         site = full_site(source, source.choice((1, 2, 3)))
-        for factors, names in [(site.scenario, SCENARIO_FACTORS)] + [(r, values) for r in site.records]:
-            factors.update({name: Decimal(source.choice(HARD_NUMBERS), source.randint(-9, 3)) for name in names})
+        names = hard_names(site)
+        for factors in (site.scenario, *site.records):
+            factors.update({name: Decimal(source.choice(HARD_NUMBERS), source.randint(-9, 3)) for name in names if name in factors})
         case = with_carry(Case(site.medium, site.scenario, site.records[0]), source)
         if source.randrange(2):
             site.scenario, site.records[0] = case.scenario, case.record
@@ -448,9 +395,9 @@ def random_sites(source):
     """Inputs of every size, values missing anywhere, at times a fault."""
     while True:
         count = source.choice((1, 1, 1, 2, 2, 3, 6))
-        classes = random_classes(source)
-        case = random_valid_case(source, classes[-1:])
-        site = Site(case.medium, case.scenario, [random_valid_case(source, classes).record for _ in range(count)])
+        classes, on_skin = random_classes(source), source.randrange(5) < 2
+        case = random_valid_case(source, classes[-1:], on_skin)
+        site = Site(case.medium, case.scenario, [random_valid_case(source, classes, on_skin).record for _ in range(count)])
         for record, number in zip(site.records, some_ids(source, count)):
             record["id"] = number
             if source.randrange(3):
@@ -473,7 +420,8 @@ FAMILIES = (
     (tritium_in_soil, 1), (short_output, 1), (long_output, 1), (lengths, 1),
     (length_and_faults, 1), (id_orders, 1), (many_blocks, 1), (bit_flips, 1), (kept_totals, 1), (exchanged_blocks, 1),
     (plausible_sites, 1), (random_sites, 2), (near_saturation, 1), (exact_saturations, 1), (capped_sides, 1),
-    (absent_inhalation, 1), (ignored_saturation, 1),
+    (absent_inhalation, 1), (ignored_saturation, 1), (missing_on_skin, 2), (one_age, 1), (hard_ages_in_sites, 1), (near_on_skin, 1),
+    (capped_on_skin, 1), (ignored_on_skin, 1), (extreme_on_skin, 1),
 )
 
 

@@ -1,4 +1,6 @@
 """The parts from which test sites are made: scenarios, records, and a site before and after it is bytes."""
+import random
+
 from guideline_records import Case
 from second.blocks import WORD, contaminant_block, header_block
 from second.decimals import ZERO, Decimal
@@ -29,6 +31,9 @@ SCENARIOS = (
      "N": Decimal(4, 0), "S": Decimal(6, 0), "V": Decimal(5, 0), "L": Decimal(276, -2), "W": Decimal(272, 0), "K": Decimal(15, -6)},
 )
 WITHOUT_HOUSE, WITH_HOUSE = SCENARIOS[-2:]
+# The child and the adult of soil on skin, as source document 004 has them in its Table B-23.
+TWO_AGES = {"childSA": Decimal(2500, 0), "childEF": Decimal(180, 0), "childED": Decimal(6, 0), "childBW": Decimal(16, 0),
+            "adultSA": Decimal(5000, 0), "adultEF": Decimal(180, 0), "adultED": Decimal(64, 0), "adultBW": Decimal(70, 0), "AF": ONE}
 
 # The powers of ten between which plausible contaminant values lie, by class.
 PLAUSIBLE = {
@@ -96,11 +101,26 @@ def some_ids(source, count):
 
 
 def full_record(source, klass, number):
-    """A record in which every value is known and plausible, but for the saturation, which about half of them have."""
-    values = {name: plausible(source, *PLAUSIBLE[klass][name]) for name in CONTAMINANT_VALUES}
+    """A record in which every value is known and plausible, but for ABS, and the saturation, which about half of them have."""
+    values = {name: plausible(source, *PLAUSIBLE[klass][name]) for name in CONTAMINANT_VALUES if name != "ABS"}
     if source.randrange(2):
         values["Csat"] = ZERO
     return {"class": klass, "id": number, **values}
+
+
+def with_skin(source, site):
+    """The site with a child, an adult and an ABS in each record, at times of nine digits."""
+    digits = source.choice((0, 0, 5))
+    site.scenario.update({name: Decimal(d.m * 10**digits + source.randrange(10**digits), d.e - digits) for name, d in TWO_AGES.items()})
+    for record in site.records:
+        record["ABS"] = plausible(source, -3, -1)
+    return site
+
+
+def at_times_with_skin(site):
+    """The site, of five two with soil on skin. These are drawn from a source of their own: the other three stay what they were."""
+    source = random.Random(repr(site.records))
+    return with_skin(source, site) if source.randrange(5) < 2 else site
 
 
 def some_scenario(source, classes):
@@ -113,26 +133,26 @@ def some_scenario(source, classes):
 
 
 def full_site(source, count, medium=None, klass=None):
-    """Every value known and every factor that its classes need, so that every record has a pathway."""
+    """Every value known and every factor that its classes need, so that every record has a pathway; at times with soil on skin."""
     medium = medium or (WATER if klass == TRITIUM else source.choice(list(MEDIA)))
     classes = (klass,) if klass else source.choice(TOGETHER[medium])
     records = [full_record(source, source.choice(classes), number) for number in some_ids(source, count)]
     scenario = WITH_HOUSE if TRITIUM in classes else source.choice((WITHOUT_HOUSE, WITH_HOUSE))
-    return Site(medium, {**PERSON, **scenario}, records)
+    return at_times_with_skin(Site(medium, {**PERSON, **scenario}, records))
 
 
 def plausible_site(source, count):
-    """Plausible records, some values missing, each with a pathway."""
+    """Plausible records, some values missing, each with a pathway; at times with soil on skin."""
     medium = source.choice(list(MEDIA))
     classes = source.choice(TOGETHER[medium])
     scenario, records = some_scenario(source, classes), []
     for number in some_ids(source, count):
         record = None
         while record is None or not has_any_pathway(medium, record, inputs_of(Site(medium, scenario, []).scenario, record)):
-            record = full_record(source, source.choice(classes), number)
-            record.update({name: ZERO for name in CONTAMINANT_VALUES if source.randrange(5) == 0})
+            record = {"ABS": ZERO, **full_record(source, source.choice(classes), number)}
+            record.update({name: ZERO for name in CONTAMINANT_VALUES if name != "ABS" and source.randrange(5) == 0})
         records.append(record)
-    return Site(medium, scenario, records)
+    return at_times_with_skin(Site(medium, scenario, records))
 
 
 def quick_site(source, count):

@@ -11,6 +11,23 @@ FIELDS = 16  # where the decimal fields begin
 HEADER, CONTAMINANT, RESULT, SUMMARY = 1, 2, 3, 4
 WORD = 2**32
 
+# The byte at which each decimal of a header and of a contaminant stands, by its name; those of a result and of a summary, in order.
+HEADER_PLACES = dict(zip(SCENARIO_FACTORS, (*range(16, 176, 8), *range(200, 272, 8)), strict=True))
+CONTAMINANT_PLACES = dict(zip(CONTAMINANT_VALUES, (*range(16, 88, 8), 112), strict=True))
+RESULT_PLACES = range(16, 80, 8)
+SUMMARY_PLACES = range(16, 48, 8)
+
+
+def between_fields(places):
+    """The bytes before the last word that stand in no field, where the fields stand at these places."""
+    in_fields = {at + byte for at in places for byte in range(8)}
+    return [at for at in range(FIELDS, LAST_WORD) if at not in in_fields]
+
+
+# The bytes of a block without a meaning: the two last of each field, and those that stand in none.
+HEADER_UNUSED, CONTAMINANT_UNUSED = ([at + byte for at in places.values() for byte in (6, 7)] + between_fields(places.values())
+                                     for places in (HEADER_PLACES, CONTAMINANT_PLACES))
+
 
 def word(block, at):
     """The four bytes at this place as a number, little-endian."""
@@ -33,51 +50,55 @@ def field_bytes(d):
     return struct.pack("<IhH", d.m, d.e, 0)
 
 
-def field_of(block, number):
-    """The decimal in the field of this number, from 0."""
-    m, e, _ = struct.unpack_from("<IhH", block, FIELDS + 8 * number)
+def field_of(block, at):
+    """The decimal in the field at this byte."""
+    m, e, _ = struct.unpack_from("<IhH", block, at)
     return Decimal(m, e)
 
 
-def unused_are_zero(block, fields):
-    """Whether the two last bytes of each field, and all bytes from the last field to the last word, are zero."""
-    ends = [block[FIELDS + 8 * number + 6:FIELDS + 8 * number + 8] for number in range(fields)]
-    return not any(b"".join(ends) + block[FIELDS + 8 * fields:LAST_WORD])
+def are_zero(block, unused):
+    """Whether the block has zero in each of these bytes."""
+    return not any(block[at] for at in unused)
 
 
-def made(kind, place, at_8, at_12, decimals, after_fields=b""):
-    """A block with these words and fields; every other byte is zero, and its words add to zero."""
-    content = struct.pack("<4I", kind, place, at_8, at_12) + b"".join(map(field_bytes, decimals)) + after_fields
-    return with_last_word(content.ljust(BLOCK, b"\0"))
+def made(words, fields):
+    """A block with these words and decimals, each with the byte at which it stands; others are zero, and its words add to zero."""
+    block = bytearray(BLOCK)
+    for at, number in words:
+        struct.pack_into("<I", block, at, number)
+    for at, d in fields:
+        block[at:at + 8] = field_bytes(d)
+    return with_last_word(bytes(block))
 
 
 def header_block(medium, count, scenario):
-    return made(HEADER, 0, medium, count, [scenario[name] for name in SCENARIO_FACTORS])
+    return made([(0, HEADER), (8, medium), (12, count)], [(at, scenario[name]) for name, at in HEADER_PLACES.items()])
 
 
 def contaminant_block(place, record):
-    return made(CONTAMINANT, place, record["class"], record["id"], [record[name] for name in CONTAMINANT_VALUES])
+    words = [(0, CONTAMINANT), (4, place), (8, record["class"]), (12, record["id"])]
+    return made(words, [(at, record[name]) for name, at in CONTAMINANT_PLACES.items()])
 
 
 def result_block(place, record, guidelines):
     """Same place, class and id as the contaminant; the eight guidelines."""
-    return made(RESULT, place, record["class"], record["id"], guidelines)
+    words = [(0, RESULT), (4, place), (8, record["class"]), (12, record["id"])]
+    return made(words, zip(RESULT_PLACES, guidelines, strict=True))
 
 
 def summary_block(sums, verdicts):
-    """The four sums from 16, then the verdicts at 48 and 52. The words at 8 and 12 have no meaning: zero."""
-    return made(SUMMARY, 0, 0, 0, sums, struct.pack("<2I", *verdicts))
+    """The four sums, then the verdicts at 48 and 52. The place is 0, and the words at 8 and 12 have no meaning."""
+    return made([(0, SUMMARY), (48, verdicts[0]), (52, verdicts[1])], zip(SUMMARY_PLACES, sums, strict=True))
 
 
 def header_of(block):
     """Medium, count and scenario, as they stand in the bytes."""
-    scenario = {name: field_of(block, number) for number, name in enumerate(SCENARIO_FACTORS)}
-    return word(block, 8), word(block, 12), scenario
+    return word(block, 8), word(block, 12), {name: field_of(block, at) for name, at in HEADER_PLACES.items()}
 
 
 def record_of(block):
     """The contaminant record, as it stands in the bytes."""
-    record = {name: field_of(block, number) for number, name in enumerate(CONTAMINANT_VALUES)}
+    record = {name: field_of(block, at) for name, at in CONTAMINANT_PLACES.items()}
     return {"class": word(block, 8), "id": word(block, 12), **record}
 
 
@@ -97,7 +118,7 @@ def header_conditions(block, blocks):
     medium, count, scenario = header_of(block)
     number = scenario_refusal(scenario, medium)
     yield from frame_conditions(block, 0, HEADER)
-    yield FIELD, not unused_are_zero(block, len(SCENARIO_FACTORS)) or number == FIELD
+    yield FIELD, not are_zero(block, HEADER_UNUSED) or number == FIELD
     yield COUNT, count != blocks - 1
     yield FACTOR, number == FACTOR
 
@@ -105,7 +126,7 @@ def header_conditions(block, blocks):
 def contaminant_conditions(block, place):
     """Refusals 2, 3 and 4 of a contaminant block; the later ones look at more than this block."""
     yield from frame_conditions(block, place, CONTAMINANT)
-    yield FIELD, not unused_are_zero(block, len(CONTAMINANT_VALUES)) or not keeps_record_rule(record_of(block))
+    yield FIELD, not are_zero(block, CONTAMINANT_UNUSED) or not keeps_record_rule(record_of(block))
 
 
 def header_writer_conditions(out, medium, count, scenario):

@@ -1,4 +1,5 @@
 """Decimals (m, e) worth m * 10^e, and their operations rounded down or up (docs/SPECIFICATION.md, "Decimals")."""
+import functools
 from fractions import Fraction
 from math import ceil, floor
 from typing import NamedTuple
@@ -58,8 +59,9 @@ def rounded(exact, direction):
     return Decimal(100_000_000, e + 1) if m == 10**9 else Decimal(m, e)
 
 
+@functools.cache
 def working_form(d):
-    """The working decimal of the same value. An input has one; both directions give it."""
+    """The working decimal of the same value. An input has one; both directions give it. The inputs of a list come again and again."""
     form = rounded(value(d), DOWN)
     assert value(form) == value(d), d
     return form

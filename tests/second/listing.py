@@ -1,5 +1,5 @@
 """The text that the program gvlist prints for a site (docs/SPECIFICATION.md, "Listing")."""
-from .blocks import BLOCK, field_of, word
+from .blocks import BLOCK, RESULT_PLACES, field_of, word
 from .decimals import ZERO
 from .guideline import ACCEPTED
 from .sums import ABOVE, NONE, UNDECIDED, WITHIN
@@ -19,7 +19,7 @@ def contaminant_lines(result):
     """The lines of one result block: id, side, three pathways, total. Only a chemical has a hazard line."""
     sides = SIDES if word(result, 8) == CHEMICAL else SIDES[:1]
     for number, side in enumerate(sides):
-        guidelines = [field_of(result, 4 * number + pathway) for pathway in range(4)]
+        guidelines = [field_of(result, at) for at in RESULT_PLACES[4 * number:4 * number + 4]]
         yield " ".join([str(word(result, 12)), side, *("-" if d == ZERO else printed(d) for d in guidelines)])
 
 

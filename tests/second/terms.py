@@ -10,8 +10,9 @@ RISK, HAZARD = "risk", "hazard"
 SIDES = (RISK, HAZARD)
 
 SCENARIO_FACTORS = ("EF", "ED", "BW", "AT", "IR", "IRA", "PEF", "ET", "RF", "SA", "TR", "THI",
-                    "M", "F", "N", "S", "V", "L", "W", "K")
-CONTAMINANT_VALUES = ("SFo", "SFi", "SFx", "RfDo", "RfDi", "VF", "PC", "C", "Csat")
+                    "M", "F", "N", "S", "V", "L", "W", "K",
+                    "childSA", "childEF", "childED", "childBW", "adultSA", "adultEF", "adultED", "adultBW", "AF")
+CONTAMINANT_VALUES = ("SFo", "SFi", "SFx", "RfDo", "RfDi", "VF", "PC", "C", "Csat", "ABS")
 
 CONSTANTS = {
     "1": Decimal(1, 0),
@@ -23,10 +24,12 @@ CONSTANTS = {
     "10^3": Decimal(1, 3),
 }
 
-# The factors that are worked out, each by its parts, which are formulas too: B = 1/VF + 1/PEF, H = ET + (F, N, S, V / L, W).
+# The factors that are worked out, each by its parts, which are formulas too: B = 1/VF + 1/PEF, H = ET + (F, N, S, V / L, W), and
+# G = (SA, EF, ED / BW) of the child plus the same of the adult.
 WORKED_OUT = {
     "B": ("1 / VF", "1 / PEF"),
     "H": ("ET", "F, N, S, V / L, W"),
+    "G": ("childSA, childEF, childED / childBW", "adultSA, adultEF, adultED / adultBW"),
 }
 
 # The formulas as the specification prints them, by medium, class and side, in the order of the pathways; None: no such pathway.
@@ -34,12 +37,12 @@ TABLE = {
     (SOIL, CHEMICAL, RISK): (
         "SFo, IR, 10^-6, EF, ED / BW, AT, 365",
         "SFi, IRA, B, EF, ED / BW, AT, 365",
-        None,
+        "SFo, ABS, AF, 10^-6, G / AT, 365",
     ),
     (SOIL, CHEMICAL, HAZARD): (
         "IR, 10^-6, EF / RfDo, BW, 365",
         "IRA, B, EF / RfDi, BW, 365",
-        None,
+        "ABS, AF, 10^-6, G / RfDo, ED, 365",
     ),
     (SOIL, RADIONUCLIDE, RISK): (
         "SFo, IR, 10^-6, EF, ED",
@@ -93,7 +96,7 @@ def is_known(name, inputs):
 
 
 def is_present(formula, inputs):
-    """A pathway is absent when a factor it names (B and H among them) is zero; nothing else makes it absent."""
+    """A pathway is absent when a factor it names (B, H and G among them) is zero; nothing else makes it absent."""
     if formula is None:
         return False
     before, after = split(formula)
@@ -101,7 +104,7 @@ def is_present(formula, inputs):
 
 
 def rounded_factor(name, inputs, direction):
-    """An input in its working form; B or H: its parts, as terms, and their sum are rounded in this direction."""
+    """An input in its working form; B, H or G: its parts, as terms, and their sum are rounded in this direction."""
     if name in WORKED_OUT:
         return term_sum([term(part, inputs, direction) for part in WORKED_OUT[name]], direction)
     return working_form(inputs[name])
@@ -121,7 +124,7 @@ def term(formula, inputs, direction):
     if not is_present(formula, inputs):
         return ZERO
     before, after = split(formula)
-    # The products after the stroke are rounded the other way. B and H stand before the stroke only.
+    # The products after the stroke are rounded the other way. B, H and G stand before the stroke only.
     above = rounded_product(before, inputs, direction)
     if not after:
         return above
