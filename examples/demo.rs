@@ -16,7 +16,7 @@ fn write_built_in(out: &mut [u8], number: u32, medium: u32, count: u32) -> u32 {
     unsafe { gv_write_built_in(out.as_mut_ptr(), out.len(), number, medium, count) }
 }
 
-/// The block of a contaminant: its class and id, its decimals (m, e) up to C, then zero bytes, so no saturation.
+/// The block of a contaminant: its class and id, its decimals (m, e) up to C, then zero bytes, so no saturation and no ABS.
 fn write_contaminant(out: &mut [u8], place: u32, class: u32, id: u32, decimals: [(u32, i16); 8]) -> u32 {
     let mut record = Vec::with_capacity(STRUCT);
     record.extend(class.to_le_bytes());

@@ -32,7 +32,7 @@ enum {
     GV_KIND = 3,      /* a block's kind is wrong */
     GV_FIELD = 4,     /* a decimal, medium, class, id or unused byte breaks its rule; a writer's count or place */
     GV_COUNT = 5,     /* the count is not the number of blocks less one */
-    GV_FACTOR = 6,    /* EF, ED, BW, AT, TR or THI is zero */
+    GV_FACTOR = 6,    /* EF, ED, BW, AT, TR or THI is zero; those of child and adult may be */
     GV_ORDER = 7,     /* an id is not above the one before */
     GV_PATHWAY = 8,   /* a contaminant has no pathway on either side */
     GV_ROOM = 10,     /* the output is too short */
@@ -55,24 +55,37 @@ struct gv_decimal {
     uint16_t zero;
 };
 
-/* A header: medium 1 soil, 2 water; how many contaminants follow, 1 to 120; the scenario, its last eight decimals for tritium
-   in water: m g/m3, f share of the day, n showers a day, s shower volumes, v and w m3, l per hour, k m/hour (docs/USERS.md).
-   With tritium in the site sa is in square metres and ira in cubic metres an hour, otherwise in square centimetres and cubic
-   metres a day. Every byte of `zero` is 0, as it is where a struct is initialized, = {0} or by names. */
+/* Soil on skin of a child or of an adult: sa cm2 of skin that meets soil, ef days a year, ed years, bw kg. */
+struct gv_age {
+    struct gv_decimal sa, ef, ed, bw;
+};
+
+/* A header: medium 1 soil, 2 water; how many contaminants follow, 1 to 120; the scenario. Its m to k are for tritium in water: m
+   g/m3, f share of the day, n showers a day, s shower volumes, v and w m3, l per hour, k m/hour. Its child, adult and af are for
+   soil on skin, of chemicals in soil: af mg of soil on a cm2 of skin; hazard is averaged over the header's own ed there
+   (docs/USERS.md). With tritium in the site the header's own sa is in square metres and its ira in cubic metres an hour, otherwise
+   in square centimetres and cubic metres a day. Every byte of `zero_before_child` and of `zero` is 0, as it is where a struct is
+   initialized, = {0} or by names. */
 struct gv_header {
     uint32_t medium, count;
     struct gv_decimal ef, ed, bw, at, ir, ira, pef, et, rf, sa, tr, thi;
     struct gv_decimal m, f, n, s, v, l, w, k;
-    uint8_t zero[332];
+    uint8_t zero_before_child[24];
+    struct gv_age child, adult;
+    struct gv_decimal af;
+    uint8_t zero[236];
 };
 
 /* A contaminant: class 1 chemical, 2 radionuclide, 3 tritium (in water, and in no site with a chemical); id from 1 on; toxicity,
-   volatilization, permeability, concentration; saturation, mg/kg of soil, of a chemical in soil, zero for none. Every byte of
-   `zero` is 0, as in a header. */
+   volatilization, permeability, concentration; saturation, mg/kg of soil, of a chemical in soil, zero for none; abs, the fraction
+   of a chemical in soil on skin that the skin absorbs, zero for not known. Every byte of `zero_before_abs` and of `zero` is 0, as
+   in a header. */
 struct gv_contaminant {
     uint32_t class_, id;
     struct gv_decimal sfo, sfi, sfx, rfdo, rfdi, vf, pc, c, saturation;
-    uint8_t zero[420];
+    uint8_t zero_before_abs[24];
+    struct gv_decimal abs;
+    uint8_t zero[388];
 };
 
 /* A struct that does not have 500 bytes, or has some behind `zero`, is refused when it is compiled: an array of size -1. */
@@ -82,7 +95,8 @@ typedef char gv_contaminant_has_its_size[GV_ENDS(struct gv_contaminant)];
 #undef GV_ENDS
 
 /* What a result block holds: risk and hazard by pathway 1, 2, 3 and in total, zero where absent. Pathway 2 of a chemical in
-   soil that has a saturation is at most the saturation; the total does not look at it and can be above pathway 2. */
+   soil that has a saturation is at most the saturation; the total does not look at it and can be above pathway 2. Pathway 3 of
+   a chemical in soil is soil on skin, and the total counts it. */
 struct gv_result {
     uint32_t place, class_, id;
     struct gv_decimal risk[4], hazard[4];
