@@ -1,17 +1,17 @@
 -- The decimals and the unused bytes of a layout, piece by piece, in a part that was lent, and field by field. Assumes nothing.
 use mathlib.Core.Path.{◌≡◌, refl, sym, ap, ap₂, ◌∙◌}
 use mathlib.Core.List.{List, [], ◌∷◌, ◌++◌}
-use mathlib.Core.Bool.{Bool, ◌&&◌, and_assoc, and_comm}
+use mathlib.Core.Bool.{Bool, true, ◌&&◌, and_assoc, and_comm, and-true}
 use Prim.Native.Nat.{ℕ, ◌+◌, ◌*◌, ◌≤◌}
 use native.Mathlib.Nat.{add_assoc}
 use native.Mathlib.Omega.{arith}
 use Rattle.words.specs.Words.{zeros, part_of}
-use Rattle.words.proofs.Parts.{zeros_part}
+use Rattle.words.proofs.Parts.{zeros_part, ZeroBytes, zero_bytes, zeros_of_bytes, zero_later}
 use Rattle.decimal.specs.declared.Decimal.{Decimal}
 use Rattle.inputs.specs.Valid.{all_valid}
 use Rattle.inputs.proofs.Tests.{valid_join}
 use Rattle.fields.specs.Fields.{unused_zero, decimals_at}
-use Rattle.fields.proofs.Fields.{unused_part, decimals_part, fields_split}
+use Rattle.fields.proofs.Fields.{unused_part, decimals_part, fields_split, zero_fields}
 use Rattle.block_rules.specs.Pieces.{Piece, Word, Decimals, Unused, pieces_size, unused_in, decimals_in, pieces_keep}
 
 -- ---- the pieces that stand in a part stand in the whole
@@ -34,6 +34,26 @@ decimals_in_part (Decimals m ∷ ps) s a n k h =
     ap₂ (λ (x y : List Decimal). x ++ y) (decimals_part s a n k m (omega arith))
     (decimals_in_part ps s a n (k + 8 * m) (omega arith) ∙ ap (decimals_in ps s) (sym (add_assoc a k (8 * m))))
 decimals_in_part (Unused m ∷ ps) s a n k h = decimals_in_part ps s a n (k + m) (omega arith) ∙ ap (decimals_in ps s) (sym (add_assoc a k m))
+
+-- ---- where all bytes are zero, the unused ones among them are
+pub zero_pieces : (ps : List Piece) (s : List ℕ) (at : ℕ) → ZeroBytes s at (pieces_size ps) → unused_in ps s at ≡ true
+unfolding unused_in
+zero_pieces [] s at z = refl
+zero_pieces (Word ∷ ps) s at z = zero_pieces ps s (at + 4) (zero_later s at 4 (pieces_size ps) z)
+zero_pieces (Decimals n ∷ ps) s at z =
+    rw (zero_fields s at n (λ i l. z i (omega (arith, l))), zero_pieces ps s (at + 8 * n) (zero_later s at (8 * n) (pieces_size ps) z))
+zero_pieces (Unused n ∷ ps) s at z =
+    rw (zeros_of_bytes s at n (λ i l. z i (omega (arith, l))), zero_pieces ps s (at + n) (zero_later s at n (pieces_size ps) z))
+
+-- two words, n decimals, and behind them nothing but zeros
+pub zeros_behind : (n : ℕ) (ps : List Piece) (s : List ℕ) (at : ℕ) → zeros s (at + (8 + 8 * n)) (pieces_size ps) ≡ true →
+    unused_in (Word ∷ Word ∷ Decimals n ∷ ps) s at ≡ unused_zero s (at + 8) n
+unfolding unused_in
+zeros_behind n ps s at h =
+    let fields : at + 4 + 4 ≡ at + 8 = omega arith in
+    let behind : at + 4 + 4 + 8 * n ≡ at + (8 + 8 * n) = omega arith in
+    let z : unused_in ps s (at + 4 + 4 + 8 * n) ≡ true = ap (unused_in ps s) behind ∙ zero_pieces ps s _ (zero_bytes s _ _ h) in
+    (λ i. unused_zero s (fields i) n && z i) ∙ and-true (unused_zero s (at + 8) n)
 
 -- ---- valid decimals and zeros in the unused bytes are the rule of each field and of each unused byte, one by one
 and_swap : (a b x y : Bool) → (a && b) && (x && y) ≡ (a && x) && (b && y)

@@ -75,14 +75,18 @@ pub fn get_header(part: &[u8], at: usize) -> Header
     }
 }
 
-// Whether the unused bytes of a header are zero.
+// Whether the unused bytes of a header are zero. Where all bytes behind the house are, one test is enough.
 pub fn header_unused(part: &[u8], at: usize) -> bool
     requires { at + struct_size ≤ length part.now }
     ensures { result ≡ header_unused part.now at }
 {
-    let before = fields::unused_zero(part, at + 8, 20) & words::all_zero(part, at + 168, 24);
+    let before = fields::unused_zero(part, at + 8, 20);
+    if words::all_zero(part, at + 168, 332) {
+        return before;
+    }
+    let gap = words::all_zero(part, at + 168, 24);
     let ages = fields::unused_zero(part, at + 192, 9);
-    before & ages & words::all_zero(part, at + 264, 236)
+    before & gap & ages & words::all_zero(part, at + 264, 236)
 }
 
 // The contaminant whose class stands at `at`: in the 504 bytes between kind and last word at 4, in a struct of C at 0.
@@ -101,14 +105,18 @@ pub fn get_contaminant(part: &[u8], at: usize) -> Contaminant
     }
 }
 
-// Whether the unused bytes of a contaminant are zero.
+// Whether the unused bytes of a contaminant are zero. Where all bytes behind the saturation are, one test is enough.
 pub fn contaminant_unused(part: &[u8], at: usize) -> bool
     requires { at + struct_size ≤ length part.now }
     ensures { result ≡ contaminant_unused part.now at }
 {
-    let before = fields::unused_zero(part, at + 8, 9) & words::all_zero(part, at + 80, 24);
+    let before = fields::unused_zero(part, at + 8, 9);
+    if words::all_zero(part, at + 80, 420) {
+        return before;
+    }
+    let gap = words::all_zero(part, at + 80, 24);
     let abs = fields::unused_zero(part, at + 104, 1);
-    before & abs & words::all_zero(part, at + 112, 388)
+    before & gap & abs & words::all_zero(part, at + 112, 388)
 }
 
 // The header of a site of so many blocks: its first 512 bytes.

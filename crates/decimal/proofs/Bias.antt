@@ -1,5 +1,5 @@
 -- Signed exponents against e + 3000: all that is known of ℤ in the crate. Assumes nothing.
-use mathlib.Core.Path.{◌≡◌, refl, ap}
+use mathlib.Core.Path.{◌≡◌, refl, sym, ap, ◌∙◌}
 use mathlib.Core.Bool.{Bool, true, false, cond}
 use Prim.Native.Nat.{ℕ, suc, ◌+◌, ◌-◌, ◌<◌}
 use native.Mathlib.Omega.{arith}
@@ -36,6 +36,10 @@ raised_is e = cases (in_range e)
 -- a signed field that was read and passed on is the field
 pub passed : (e : ℤ) {x : ℕ} → mag e < 2147483648 → x ≡ raised (to_z w32 (of_z w32 e)) → x ≡ raised e
 passed e fits h = rw (to_z-of_z {w = w32} {z = e} (record { sfits = fits })) at h
+
+-- and where its test against zero held, it is zero
+pub zero_passed : (e : ℤ) → mag e < 2147483648 → of_z w32 e ≡ 0 → raised e ≡ 3000
+zero_passed e fits h = ap raised (sym (to_z-of_z {w = w32} {z = e} (record { sfits = fits })) ∙ ap (to_z w32) h)
 
 -- ---- there and back again
 pub raise_lower : (x : ℕ) → raise (sub_ℕ x 3000) ≡ x

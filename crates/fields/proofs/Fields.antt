@@ -7,7 +7,9 @@ use native.Mathlib.Nat.{add_assoc, add-zero}
 use native.Mathlib.Omega.{arith}
 use lib.Dec.{eqb}
 use Rattle.words.specs.Words.{part_of}
-use Rattle.words.proofs.Parts.{get_or_part, get_or_part_add, word_part}
+use lib.ListN.{get_or}
+use borrow.Author.Tests.{eq-eqb}
+use Rattle.words.proofs.Parts.{get_or_part, get_or_part_add, word_part, ZeroBytes, zero_later}
 use Rattle.decimal.specs.declared.Decimal.{Decimal}
 use Rattle.inputs.specs.Valid.{valid_of, all_valid}
 use Rattle.fields.specs.Fields.{half_at, signed_of, decimal_at, decimals_at, field_ok, fields_ok, unused_zero}
@@ -38,6 +40,16 @@ unused_part s a n k zero h = refl
 unused_part s a n k (suc m) h =
     ap₂ (λ (x : ℕ) (y : Bool). eqb x 0 && y) (half_part_add s a n k 6 (omega arith))
     (unused_part s a n (k + 8) m (omega arith) ∙ ap (λ (i : ℕ). unused_zero s i m) (sym (add_assoc a k 8)))
+
+-- ---- the last bytes of n fields, where all of their bytes are zero
+pub zero_fields : (s : List ℕ) (at n : ℕ) → ZeroBytes s at (8 * n) → unused_zero s at n ≡ true
+unfolding unused_zero half_at
+zero_fields s at zero z = refl
+zero_fields s at (suc n) z =
+    let byte : get_or s (at + 7) 0 ≡ 0 = z 7 (omega arith) in
+    let place : at + 7 ≡ at + 6 + 1 = omega arith in
+    let half : get_or s (at + 6) 0 + 256 * get_or s (at + 6 + 1) 0 ≡ 0 = omega (arith, z 6 (omega arith), sym (ap (λ (i : ℕ). get_or s i 0) place) ∙ byte) in
+    rw (eq-eqb _ 0 half, zero_fields s (at + 8) n (zero_later s at 8 (8 * n) (λ i l. z i (omega (arith, l)))))
 
 -- ---- n fields keep their rule where their decimals are valid and their last bytes zero
 and_swap : (a b x y : Bool) → (a && b) && (x && y) ≡ (a && x) && (b && y)

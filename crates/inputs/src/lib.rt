@@ -222,6 +222,16 @@ pub fn valid(d: Decimal) -> bool
     (m <= 999_999_999) & low & high & !zero
 }
 
+// The same of a decimal that most records leave at zero, which takes no further test.
+fn zero_or_valid(d: Decimal) -> bool
+    ensures { result ≡ valid_of d }
+{
+    if (d.m == 0) & (d.e == 0) {
+        return true;
+    }
+    valid(d)
+}
+
 // Whether each decimal keeps its rule. No branch depends on them.
 fn all_valid<const N: usize>(ds: [Decimal; N]) -> bool
     ensures { result ≡ all_valid ds.entry }
@@ -252,8 +262,8 @@ pub fn valid_contaminant(r: Contaminant) -> bool
     let toxicity = all_valid(r.toxicity.into());
     let transfer = all_valid(r.transfer.into());
     let c = valid(r.c);
-    let saturation = valid(r.saturation);
-    let abs = valid(r.abs);
+    let saturation = zero_or_valid(r.saturation);
+    let abs = zero_or_valid(r.abs);
     toxicity & transfer & c & saturation & abs
 }
 

@@ -1,6 +1,9 @@
 -- What stands in a part of a list stands in the whole: bytes, words, zero bytes, a part of a part. Assumes nothing.
 use Rattle.std.proofs.Common.{◌≡◌, ℕ, zero, suc, ◌+◌, ◌<◌, ◌≤◌, Bool, ◌&&◌, eqb, List, [], ◌∷◌, length, get_or, take, drop}
 use Rattle.std.proofs.Common.{sym, refl, ap, ◌∙◌, ap₂, add-zero, add-one, add_assoc, arith, length-drop, length-take-le, get_or-drop, get_or-take, take-take, drop-drop}
+use mathlib.Core.Bool.{true, false, and-eq-true_iff}
+use lib.Dec.{ltb}
+use borrow.Author.Tests.{eqb-true, eq-eqb, ltb-true, ltb-false}
 use Rattle.words.specs.Words.{word_at, zeros, part_of}
 
 pub get_or_part : (s : List ℕ) (a n k : ℕ) → k < n → get_or (part_of s a n) k 0 ≡ get_or s (a + k) 0
@@ -31,6 +34,30 @@ unfolding zeros
 zeros_part s a n k zero h = refl
 zeros_part s a n k (suc m) h =
     ap₂ (λ (x : Bool) (y : ℕ). x && eqb y 0) (zeros_part s a n k m (omega arith)) (get_or_part_add s a n k m (omega arith))
+
+-- ---- bytes that are all zero, one by one
+abbrev pub ZeroBytes : List ℕ → ℕ → ℕ → Type 0
+ZeroBytes s at n = (i : ℕ) → i < n → get_or s (at + i) 0 ≡ 0
+
+pub zero_bytes : (s : List ℕ) (at n : ℕ) → zeros s at n ≡ true → ZeroBytes s at n
+unfolding zeros
+zero_bytes s at zero h i l = absurd (omega (arith, l))
+zero_bytes s at (suc n) h i l =
+    let parts = (and-eq-true_iff (zeros s at n) (eqb (get_or s (at + n) 0) 0)).0 h in
+    cases (zero_bytes s at n parts.0 i) (eqb-true (get_or s (at + n) 0) 0 parts.1) (ltb i n) refl
+  where
+    cases : (i < n → get_or s (at + i) 0 ≡ 0) → get_or s (at + n) 0 ≡ 0 → (t : Bool) → ltb i n ≡ t → get_or s (at + i) 0 ≡ 0
+    cases earlier last true e = earlier (ltb-true i n e)
+    cases earlier last false e = let same : i ≡ n = omega (arith, l, ltb-false i n e) in ap (λ (k : ℕ). get_or s (at + k) 0) same ∙ last
+
+pub zeros_of_bytes : (s : List ℕ) (at n : ℕ) → ZeroBytes s at n → zeros s at n ≡ true
+unfolding zeros
+zeros_of_bytes s at zero z = refl
+zeros_of_bytes s at (suc n) z = rw (zeros_of_bytes s at n (λ i l. z i (omega (arith, l)))) (eq-eqb (get_or s (at + n) 0) 0 (z n (omega arith)))
+
+-- those from the k-th on
+pub zero_later : (s : List ℕ) (at k n : ℕ) → ZeroBytes s at (k + n) → ZeroBytes s (at + k) n
+zero_later s at k n z i l = ap (λ (j : ℕ). get_or s j 0) (add_assoc at k i) ∙ z (k + i) (omega (arith, l))
 
 take_drop_take : (b m n : ℕ) (l : List ℕ) → b + m ≤ n → take m (drop b (take n l)) ≡ take m (drop b l)
 take_drop_take zero m n l h = take-take m n l (omega arith)

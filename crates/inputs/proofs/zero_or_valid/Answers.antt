@@ -1,0 +1,15 @@
+-- `inputs::zero_or_valid`: (0, 0) keeps its rule.
+use Rattle.std.proofs.Common.{arith, refl}
+use lib.Dec.{eqb}
+use borrow.Author.Tests.{eqb-true}
+use Rattle.decimal.proofs.Bias.{zero_passed}
+use Rattle.inputs.specs.Valid.{valid_of}
+use Rattle.inputs.proofs.Tests.{and_split}
+use Rattle.inputs.proofs.zero_or_valid.Goals as goal
+
+pub returns-then-d : goal.returns-then-d
+unfolding valid_of
+returns-then-d c =
+    let d = c.args.d in
+    let both = and_split (eqb d.m 0) _ c.if-d.true in
+    rw (eqb-true d.m 0 both.0, zero_passed d.e (omega arith) (eqb-true _ 0 both.1)) refl
