@@ -45,15 +45,19 @@ zero_pieces (Decimals n ∷ ps) s at z =
 zero_pieces (Unused n ∷ ps) s at z =
     rw (zeros_of_bytes s at n (λ i l. z i (omega (arith, l))), zero_pieces ps s (at + n) (zero_later s at n (pieces_size ps) z))
 
--- two words, n decimals, and behind them nothing but zeros
-pub zeros_behind : (n : ℕ) (ps : List Piece) (s : List ℕ) (at : ℕ) → zeros s (at + (8 + 8 * n)) (pieces_size ps) ≡ true →
-    unused_in (Word ∷ Word ∷ Decimals n ∷ ps) s at ≡ unused_zero s (at + 8) n
+-- two words, n decimals, and what stands behind them; and where that is nothing but zeros
+pub behind_first : (n : ℕ) (ps : List Piece) (s : List ℕ) (at : ℕ) →
+    unused_in (Word ∷ Word ∷ Decimals n ∷ ps) s at ≡ unused_zero s (at + 8) n && unused_in ps s (at + (8 + 8 * n))
 unfolding unused_in
-zeros_behind n ps s at h =
+behind_first n ps s at =
     let fields : at + 4 + 4 ≡ at + 8 = omega arith in
     let behind : at + 4 + 4 + 8 * n ≡ at + (8 + 8 * n) = omega arith in
-    let z : unused_in ps s (at + 4 + 4 + 8 * n) ≡ true = ap (unused_in ps s) behind ∙ zero_pieces ps s _ (zero_bytes s _ _ h) in
-    (λ i. unused_zero s (fields i) n && z i) ∙ and-true (unused_zero s (at + 8) n)
+    λ i. unused_zero s (fields i) n && unused_in ps s (behind i)
+
+pub zeros_behind : (n : ℕ) (ps : List Piece) (s : List ℕ) (at : ℕ) → zeros s (at + (8 + 8 * n)) (pieces_size ps) ≡ true →
+    unused_in (Word ∷ Word ∷ Decimals n ∷ ps) s at ≡ unused_zero s (at + 8) n
+zeros_behind n ps s at h =
+    behind_first n ps s at ∙ ap (λ (x : Bool). unused_zero s (at + 8) n && x) (zero_pieces ps s _ (zero_bytes s _ _ h)) ∙ and-true (unused_zero s (at + 8) n)
 
 -- ---- valid decimals and zeros in the unused bytes are the rule of each field and of each unused byte, one by one
 and_swap : (a b x y : Bool) → (a && b) && (x && y) ≡ (a && x) && (b && y)

@@ -1,8 +1,9 @@
 // Reading the blocks of a site: the header and the contaminants.
 #![tactic(auto)]
 
-ghost use Rattle.std.specs.Prelude.{◌≡◌, ◌+◌, ◌≤◌, eqb, length};
+ghost use Rattle.std.specs.Prelude.{◌≡◌, ◌+◌, ◌≤◌, eqb, length, drop};
 ghost use Rattle.words.specs.Words.{part_of};
+ghost use Rattle.block_rules.specs.Pieces.{header_pieces, contaminant_pieces, unused_in};
 ghost use Rattle.block_rules.specs.Rules.{in_file, count_ok, block_size, struct_size};
 ghost use Rattle.block_rules.specs.Reading.{scenario_at, header_at, contaminant_at, header_unused, contaminant_unused, sound_at, header_read, contaminant_read};
 
@@ -75,6 +76,17 @@ pub fn get_header(part: &[u8], at: usize) -> Header
     }
 }
 
+// Whether the unused bytes of a header behind the house are zero. It stands by itself, so that headers without ages do not pay for it.
+#[inline(never)]
+fn header_gaps(part: &[u8], at: usize) -> bool
+    requires { at + struct_size ≤ length part.now }
+    ensures { result ≡ unused_in (drop 3 header_pieces) part.now (at + 168) }
+{
+    let gap = words::all_zero(part, at + 168, 24);
+    let ages = fields::unused_zero(part, at + 192, 9);
+    gap & ages & words::all_zero(part, at + 264, 236)
+}
+
 // Whether the unused bytes of a header are zero. Where all bytes behind the house are, one test is enough.
 pub fn header_unused(part: &[u8], at: usize) -> bool
     requires { at + struct_size ≤ length part.now }
@@ -84,9 +96,7 @@ pub fn header_unused(part: &[u8], at: usize) -> bool
     if words::all_zero(part, at + 168, 332) {
         return before;
     }
-    let gap = words::all_zero(part, at + 168, 24);
-    let ages = fields::unused_zero(part, at + 192, 9);
-    before & gap & ages & words::all_zero(part, at + 264, 236)
+    before & header_gaps(part, at)
 }
 
 // The contaminant whose class stands at `at`: in the 504 bytes between kind and last word at 4, in a struct of C at 0.
@@ -105,6 +115,17 @@ pub fn get_contaminant(part: &[u8], at: usize) -> Contaminant
     }
 }
 
+// Whether the unused bytes of a contaminant behind the saturation are zero, by itself likewise.
+#[inline(never)]
+fn contaminant_gaps(part: &[u8], at: usize) -> bool
+    requires { at + struct_size ≤ length part.now }
+    ensures { result ≡ unused_in (drop 3 contaminant_pieces) part.now (at + 80) }
+{
+    let gap = words::all_zero(part, at + 80, 24);
+    let abs = fields::unused_zero(part, at + 104, 1);
+    gap & abs & words::all_zero(part, at + 112, 388)
+}
+
 // Whether the unused bytes of a contaminant are zero. Where all bytes behind the saturation are, one test is enough.
 pub fn contaminant_unused(part: &[u8], at: usize) -> bool
     requires { at + struct_size ≤ length part.now }
@@ -114,9 +135,7 @@ pub fn contaminant_unused(part: &[u8], at: usize) -> bool
     if words::all_zero(part, at + 80, 420) {
         return before;
     }
-    let gap = words::all_zero(part, at + 80, 24);
-    let abs = fields::unused_zero(part, at + 104, 1);
-    before & gap & abs & words::all_zero(part, at + 112, 388)
+    before & contaminant_gaps(part, at)
 }
 
 // The header of a site of so many blocks: its first 512 bytes.

@@ -64,29 +64,6 @@ impl Given {
             .add(self.p.inverse_pef, self.dir)
     }
 
-    // Soil on skin, of risk and of hazard. Without ABS or without G both are zero, and nothing is worked out.
-    fn on_skin(self) -> Sides<Number>
-        requires { self.medium ≡ Soil }
-        ensures { SkinFor self.dir self.f self.t result }
-    {
-        let Given { f, p, t, dir, .. } = self;
-        if (t.abs.m == 0) | (p.ages.m == 0) {
-            return Sides {
-                risk: Number::ZERO,
-                hazard: Number::ZERO,
-            };
-        }
-        let x = t.toxicity;
-        let af = f.ages.af;
-        let risk = product3(product3(x.sfo, t.abs, af, dir), MILLIONTH, p.ages, dir);
-        let hazard = product3(t.abs, af, MILLIONTH, dir).mul(p.ages, dir);
-        let dose = product3(x.rfdo, f.exposure.ed, DAYS, dir.opposite());
-        Sides {
-            risk: risk.div(p.averaging, dir),
-            hazard: hazard.div(dose, dir),
-        }
-    }
-
     // Soil, chemical, risk: ingestion, inhalation and skin.
     fn soil_chemical_risk(self, b: Number, skin: Number) -> PathwayTerms
         requires { (Air self.dir self.f self.t b) × TermFor self.dir self.f self.t (pathways_of 1 1 Risk) 2 skin }
@@ -232,6 +209,37 @@ fn no_side() -> PathwayTerms
     }
 }
 
+// Soil on skin, of risk and of hazard. It stands by itself, so that records without it do not pay for its room.
+#[inline(never)]
+fn skin_terms(f: &Factors, p: &Prepared, t: &ContaminantNumbers, dir: Direction) -> Sides<Number>
+    requires { Ready dir (medium_number Soil) f.now p.now t.now }
+    ensures { SkinFor dir f.now t.now result }
+{
+    let x = t.toxicity;
+    let af = f.ages.af;
+    let risk = product3(product3(x.sfo, t.abs, af, dir), MILLIONTH, p.ages, dir);
+    let hazard = product3(t.abs, af, MILLIONTH, dir).mul(p.ages, dir);
+    let dose = product3(x.rfdo, f.exposure.ed, DAYS, dir.opposite());
+    Sides {
+        risk: risk.div(p.averaging, dir),
+        hazard: hazard.div(dose, dir),
+    }
+}
+
+// The same; without ABS or without G both are zero, and nothing is worked out.
+fn on_skin(f: &Factors, p: &Prepared, t: &ContaminantNumbers, dir: Direction) -> Sides<Number>
+    requires { Ready dir (medium_number Soil) f.now p.now t.now }
+    ensures { SkinFor dir f.now t.now result }
+{
+    if (t.abs.m == 0) | (p.ages.m == 0) {
+        return Sides {
+            risk: Number::ZERO,
+            hazard: Number::ZERO,
+        };
+    }
+    skin_terms(f, p, t, dir)
+}
+
 // The terms of both sides for a class, in a medium that was prepared for.
 pub fn terms_of(
     f: &Factors,
@@ -254,7 +262,7 @@ pub fn terms_of(
     match (class, medium) {
         (Class::Chemical, Medium::Soil) => {
             let b = given.air();
-            let skin = given.on_skin();
+            let skin = on_skin(f, p, t, dir);
             Terms {
                 risk: given.soil_chemical_risk(b, skin.risk),
                 hazard: given.soil_chemical_hazard(b, skin.hazard),

@@ -1,19 +1,18 @@
--- `blocks::contaminant_unused`: each test is that of a piece; where all bytes behind the first decimals are zero, so are the unused ones among them.
-use Rattle.std.proofs.Common.{[], ◌∷◌, sym, ◌∙◌}
-use mathlib.Core.Bool.{and-true, and_assoc}
-use native.Mathlib.Nat.{add_assoc}
-use Rattle.block_rules.specs.Pieces.{Decimals, Unused, unused_in}
+-- `blocks::contaminant_unused`: where all bytes behind the first decimals are zero, so are the unused ones among them.
+use Rattle.std.proofs.Common.{sym, ap₂, drop, ◌∙◌, Bool}
+use mathlib.Core.Bool.{◌&&◌}
+use Rattle.block_rules.specs.Pieces.{contaminant_pieces}
 use Rattle.block_rules.specs.Reading.{contaminant_unused}
-use Rattle.block_rules.proofs.Pieces.{zeros_behind}
+use Rattle.block_rules.proofs.Pieces.{behind_first, zeros_behind}
 use Rattle.blocks.proofs.contaminant_unused.Goals as goal
 
 pub returns-then-all_zero : goal.returns-then-all_zero
 unfolding contaminant_unused
 returns-then-all_zero c =
     let zero = sym c.all_zero.ensures ∙ c.if-all_zero.true in
-    c.unused_zero-before.ensures ∙ sym (zeros_behind 9 (Unused 24 ∷ Decimals 1 ∷ Unused 388 ∷ []) c.args.part.now c.args.at zero)
+    c.unused_zero-before.ensures ∙ sym (zeros_behind 9 (drop 3 contaminant_pieces) c.args.part.now c.args.at zero)
 
 pub returns : goal.returns
-unfolding contaminant_unused unused_in
+unfolding contaminant_unused
 returns c =
-    simp (add_assoc, and-true, and_assoc, c.unused_zero-before.ensures, c.all_zero-gap.ensures, c.unused_zero-abs.ensures, c.all_zero-2.ensures)
+    ap₂ (λ (x y : Bool). x && y) c.unused_zero-before.ensures c.contaminant_gaps.ensures ∙ sym (behind_first 9 (drop 3 contaminant_pieces) c.args.part.now c.args.at)

@@ -1,11 +1,12 @@
 -- `terms::pathways::terms_of`: the terms are those of the row of the medium and the class; where the row has none, there is no term.
-use Rattle.std.proofs.Common.{◌≡◌, ℕ, refl, sym, subst, List}
+use Rattle.std.proofs.Common.{◌≡◌, ℕ, refl, sym, ap, subst, List}
 use Rattle.rounding.specs.declared.Direction.{Direction}
 use Rattle.factors.specs.declared.numbers.Factors.{Factors}
 use Rattle.factors.specs.declared.numbers.ContaminantNumbers.{ContaminantNumbers}
+use Rattle.inputs.specs.Kinds.{medium_number}
 use Rattle.formulas.specs.Side.{Risk, Hazard}
 use Rattle.formulas.specs.Formula.{Formula, table, no_pathways, pathways_of}
-use Rattle.terms.specs.Side.{Terms, SideFor, TermsFor, no_side}
+use Rattle.terms.specs.Side.{Ready, Terms, SideFor, TermsFor, no_side}
 use Rattle.terms.proofs.NumberValues.{no_terms}
 use Rattle.terms.proofs.pathways.terms_of.Goals as goal
 
@@ -16,7 +17,7 @@ risk_alone {dir} {f} {t} medium class {r} none risk e =
     record { risk = risk; hazard = subst (λ (fs : List Formula). SideFor dir f t fs r.hazard) (sym none) (no_terms dir f t e) }
 
 pub on_skin-skin-requires : goal.on_skin-skin-requires
-on_skin-skin-requires c = c.in-Chemical-Soil.is-1
+on_skin-skin-requires c = subst (λ (m : ℕ). Ready c.args.dir m c.args.f.now c.args.p.now c.args.t.now) (ap medium_number c.in-Chemical-Soil.is-1) c.requires
 
 pub soil_chemical_risk-requires : goal.soil_chemical_risk-requires
 soil_chemical_risk-requires c = (c.air-b.ensures, c.on_skin-skin.ensures.risk)
