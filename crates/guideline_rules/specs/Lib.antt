@@ -4,4 +4,5 @@ pub mod Saturation
 pub mod Guideline
 pub mod Steps
 pub mod Promise
+pub mod Skin
 pub mod Figures
