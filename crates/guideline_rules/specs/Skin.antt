@@ -1,6 +1,7 @@
 -- Soil on skin: the words of the theorems about it.
-use Rattle.std.specs.Prelude.{◌≡◌, ℕ, List, [], ◌∷◌, get_or}
+use Rattle.std.specs.Prelude.{◌≡◌, ◌⊎◌, false, ℕ, eqb, List, [], ◌∷◌, get_or}
 use Rattle.decimal.specs.declared.Decimal.{Decimal}
+use Rattle.inputs.specs.declared.groups.Age.{Age}
 use Rattle.inputs.specs.declared.groups.Ages.{Ages}
 use Rattle.inputs.specs.declared.Scenario.{Scenario}
 use Rattle.inputs.specs.declared.Contaminant.{Contaminant}
@@ -13,6 +14,18 @@ use Rattle.formulas.specs.Formula.{Formula, none}
 pub record ChemicalInSoil (medium : ℕ) (r : Contaminant) : Type 0 where
   pub soil : medium ≡ medium_number Soil
   pub chemical : r.class ≡ class_number Chemical
+
+-- what its pathway needs beside the dose of a side: ABS, the adherence, and one age with all four factors
+pub record AgeKnown (x : Age Decimal) : Type 0 where
+  pub sa : eqb x.sa.m 0 ≡ false
+  pub ef : eqb x.ef.m 0 ≡ false
+  pub ed : eqb x.ed.m 0 ≡ false
+  pub bw : eqb x.bw.m 0 ≡ false
+
+pub record SkinKnown (s : Scenario) (r : Contaminant) : Type 0 where
+  pub abs : eqb r.abs.m 0 ≡ false
+  pub af : eqb s.ages.af.m 0 ≡ false
+  pub age : AgeKnown s.ages.child ⊎ AgeKnown s.ages.adult
 
 -- the scenario with other ages, and the record with another ABS
 abbrev pub with_ages : Ages Decimal → Scenario → Scenario

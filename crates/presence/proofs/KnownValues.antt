@@ -179,7 +179,7 @@ module _ {s : Scenario} {medium : ℕ} {r : Contaminant} (h : Checked s medium r
       (parts_known (plain_values l) (exact_plain l) (plain_stand Up l valid) derived derived_every ∙ ap (λ (ks : List Bool). map (some_known ks) derived) plain_known)
       (working_known l valid)
 
-  side_known : (side : Side) → has_pathway s medium r side ≡ some_known (known_values s r) (formulas_for s medium r side)
+  pub side_known : (side : Side) → has_pathway s medium r side ≡ some_known (known_values s r) (formulas_for s medium r side)
   unfolding has_pathway
   side_known side = any_known (values_for Up s r) (formulas_for s medium r side) ∙ ap (λ (ks : List Bool). some_known ks (formulas_for s medium r side)) values_known
 
