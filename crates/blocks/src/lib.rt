@@ -1,9 +1,9 @@
 // Reading the blocks of a site: the header and the contaminants.
 #![tactic(auto)]
 
-ghost use Rattle.std.specs.Prelude.{◌≡◌, ◌+◌, ◌≤◌, eqb, length, drop};
+ghost use Rattle.std.specs.Prelude.{◌≡◌, ◌+◌, ◌*◌, ◌≤◌, eqb, length};
 ghost use Rattle.words.specs.Words.{part_of};
-ghost use Rattle.block_rules.specs.Pieces.{header_pieces, contaminant_pieces, unused_in};
+ghost use Rattle.block_rules.specs.Pieces.{behind_gap, unused_in};
 ghost use Rattle.block_rules.specs.Rules.{in_file, count_ok, block_size, struct_size};
 ghost use Rattle.block_rules.specs.Reading.{scenario_at, header_at, contaminant_at, header_unused, contaminant_unused, sound_at, header_read, contaminant_read};
 
@@ -76,15 +76,17 @@ pub fn get_header(part: &[u8], at: usize) -> Header
     }
 }
 
-// Whether the unused bytes of a header behind the house are zero. It stands by itself, so that headers without ages do not pay for it.
+// Whether the unused bytes are zero from the gap of 24 bytes at `at` on, behind which n decimals and so many further bytes stand. It
+// stands by itself, so that blocks with nothing there do not pay for it.
 #[inline(never)]
-fn header_gaps(part: &[u8], at: usize) -> bool
-    requires { at + struct_size ≤ length part.now }
-    ensures { result ≡ unused_in (drop 3 header_pieces) part.now (at + 168) }
+fn gap_unused(part: &[u8], at: usize, n: usize, rest: usize) -> bool
+    requires { at + (24 + (8 * n + rest)) ≤ length part.now }
+    ensures { result ≡ unused_in (behind_gap n rest) part.now at }
 {
-    let gap = words::all_zero(part, at + 168, 24);
-    let ages = fields::unused_zero(part, at + 192, 9);
-    gap & ages & words::all_zero(part, at + 264, 236)
+    let gap = words::all_zero(part, at, 24);
+    let later = fields::unused_zero(part, at + 24, n);
+    let end = at + 24 + 8 * n;
+    gap & later & words::all_zero(part, end, rest)
 }
 
 // Whether the unused bytes of a header are zero. Where all bytes behind the house are, one test is enough.
@@ -96,7 +98,7 @@ pub fn header_unused(part: &[u8], at: usize) -> bool
     if words::all_zero(part, at + 168, 332) {
         return before;
     }
-    before & header_gaps(part, at)
+    before & gap_unused(part, at + 168, 9, 236)
 }
 
 // The contaminant whose class stands at `at`: in the 504 bytes between kind and last word at 4, in a struct of C at 0.
@@ -115,17 +117,6 @@ pub fn get_contaminant(part: &[u8], at: usize) -> Contaminant
     }
 }
 
-// Whether the unused bytes of a contaminant behind the saturation are zero, by itself likewise.
-#[inline(never)]
-fn contaminant_gaps(part: &[u8], at: usize) -> bool
-    requires { at + struct_size ≤ length part.now }
-    ensures { result ≡ unused_in (drop 3 contaminant_pieces) part.now (at + 80) }
-{
-    let gap = words::all_zero(part, at + 80, 24);
-    let abs = fields::unused_zero(part, at + 104, 1);
-    gap & abs & words::all_zero(part, at + 112, 388)
-}
-
 // Whether the unused bytes of a contaminant are zero. Where all bytes behind the saturation are, one test is enough.
 pub fn contaminant_unused(part: &[u8], at: usize) -> bool
     requires { at + struct_size ≤ length part.now }
@@ -135,7 +126,7 @@ pub fn contaminant_unused(part: &[u8], at: usize) -> bool
     if words::all_zero(part, at + 80, 420) {
         return before;
     }
-    before & contaminant_gaps(part, at)
+    before & gap_unused(part, at + 80, 1, 388)
 }
 
 // The header of a site of so many blocks: its first 512 bytes.

@@ -1,9 +1,0 @@
--- `blocks::contaminant_gaps`: each test is that of a piece.
-use mathlib.Core.Bool.{and-true, and_assoc}
-use native.Mathlib.Nat.{add_assoc}
-use Rattle.block_rules.specs.Pieces.{unused_in}
-use Rattle.blocks.proofs.contaminant_gaps.Goals as goal
-
-pub returns : goal.returns
-unfolding unused_in
-returns c = simp (add_assoc, and-true, and_assoc, c.all_zero-gap.ensures, c.unused_zero-abs.ensures, c.all_zero.ensures)
