@@ -73,5 +73,5 @@ pub record PreparedFor (dir : Direction) (medium : ℕ) (f : Factors) (p : Prepa
   pub vapour_intake : Stands three_width p.vapour_intake (product_of dir (decimal_of f.contact.ira ∷ half ∷ decimal_of f.exposure.ef ∷ []))
   pub inverse_pef : Stands two_width p.inverse_pef (div_of unit (decimal_of f.contact.pef) dir)
   pub hours : HoursFor dir medium f p.hours
-  pub ages : AgesFor dir medium f p.ages
+  pub both_ages : AgesFor dir medium f p.both_ages
   pub averaging : Stands two_width p.averaging (product_of (opposite dir) (decimal_of f.exposure.at ∷ days ∷ []))

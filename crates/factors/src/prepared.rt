@@ -32,9 +32,9 @@ pub const DAYS: Number = Number {
     x: BIAS - 6,
 };
 
-// Of a scenario's factors in a direction: the divisor BW, AT, 365 of every risk term of a chemical (rounded the other way);
-// the dividends of hazard by ingestion of soil, of water and by vapour; 1 / PEF; H, where the medium is water; where it is soil G; and
-// the divisor AT, 365 of risk by soil on skin.
+// Of a scenario's factors in a direction: the divisor BW, AT, 365 of the risk terms of a chemical but for soil on skin, and
+// that of soil on skin, AT, 365 (both rounded the other way); the dividends of hazard by ingestion of soil, of water and by
+// vapour; 1 / PEF; H, where the medium is water; and G, where it is soil.
 #[derive(Clone, Copy)]
 pub struct Prepared {
     pub lifetime: Number,
@@ -43,7 +43,7 @@ pub struct Prepared {
     pub vapour_intake: Number,
     pub inverse_pef: Number,
     pub hours: Number,
-    pub ages: Number,
+    pub both_ages: Number,
     pub averaging: Number,
 }
 
@@ -86,7 +86,7 @@ fn one_age(x: Age<Number>, dir: Direction) -> Number
 }
 
 // G, the child's and the adult's, in soil; in water no record needs G.
-fn ages(f: &Factors, medium: Medium, dir: Direction) -> Number
+fn both_ages(f: &Factors, medium: Medium, dir: Direction) -> Number
     requires { ReadyFactors f.now }
     ensures { AgesFor dir (medium_number medium) f.now result }
 {
@@ -109,7 +109,7 @@ pub fn prepare(f: &Factors, medium: Medium, dir: Direction) -> Prepared
     let vapour_intake = product3(f.contact.ira, HALF, f.exposure.ef, dir);
     let inverse_pef = ONE.div(f.contact.pef, dir);
     let hours = hours(f, medium, dir);
-    let ages = ages(f, medium, dir);
+    let both_ages = both_ages(f, medium, dir);
     let averaging = f.exposure.at.mul(DAYS, dir.opposite());
     Prepared {
         lifetime,
@@ -118,7 +118,7 @@ pub fn prepare(f: &Factors, medium: Medium, dir: Direction) -> Prepared
         vapour_intake,
         inverse_pef,
         hours,
-        ages,
+        both_ages,
         averaging,
     }
 }

@@ -86,24 +86,24 @@ sample_of c abs = record {
 abbrev pub office_on_skin : Scenario
 office_on_skin = office_with (dec 15 (pos 0)) (dec 70 (pos 0))
 
-abbrev both_ages : Direction → Decimal → Decimal → Decimal
-both_ages dir child adult = look (values_for dir (office_with child adult) tritium) G
+abbrev g_of : Direction → Decimal → Decimal → Decimal
+g_of dir child adult = look (values_for dir (office_with child adult) tritium) G
 
 unfoldable pub ages_figures : List Figure
 ages_figures =
-    (both_ages Up (dec 15 (pos 0)) (dec 70 (pos 0)) is dec 880000000 (negsuc 2)) ∷
-    (both_ages Up (dec 13 (pos 0)) (dec 72 (pos 0)) is dec 906410258 (negsuc 2)) ∷
-    (both_ages Down (dec 13 (pos 0)) (dec 72 (pos 0)) is dec 906410256 (negsuc 2)) ∷
-    (both_ages Up zero_of (dec 70 (pos 0)) is dec 600000000 (negsuc 2)) ∷
-    (both_ages Up (dec 15 (pos 0)) zero_of is dec 280000000 (negsuc 2)) ∷
-    (both_ages Up zero_of zero_of is zero_of) ∷ []
+    (g_of Up (dec 15 (pos 0)) (dec 70 (pos 0)) is dec 880000000 (negsuc 2)) ∷
+    (g_of Up (dec 13 (pos 0)) (dec 72 (pos 0)) is dec 906410258 (negsuc 2)) ∷
+    (g_of Down (dec 13 (pos 0)) (dec 72 (pos 0)) is dec 906410256 (negsuc 2)) ∷
+    (g_of Up zero_of (dec 70 (pos 0)) is dec 600000000 (negsuc 2)) ∷
+    (g_of Up (dec 15 (pos 0)) zero_of is dec 280000000 (negsuc 2)) ∷
+    (g_of Up zero_of zero_of is zero_of) ∷ []
 
 -- the sample with ABS 0.1 there, and the upper third term of each side
-abbrev pub on_skin : Contaminant
-on_skin = sample_of zero_of (dec 1 (negsuc 0))
+abbrev pub skin_sample : Contaminant
+skin_sample = sample_of zero_of (dec 1 (negsuc 0))
 
 abbrev third_term : Side → Decimal
-third_term side = term_of (values_for Up office_on_skin on_skin) Up (get_or (formulas_for office_on_skin 1 on_skin side) 2 none)
+third_term side = term_of (values_for Up office_on_skin skin_sample) Up (get_or (formulas_for office_on_skin 1 skin_sample side) 2 none)
 
-unfoldable pub skin_terms : List Figure
-skin_terms = (third_term Risk is dec 688845402 (negsuc 14)) ∷ (third_term Hazard is dec 964383562 (negsuc 12)) ∷ []
+unfoldable pub skin_term_figures : List Figure
+skin_term_figures = (third_term Risk is dec 688845402 (negsuc 14)) ∷ (third_term Hazard is dec 964383562 (negsuc 12)) ∷ []

@@ -10,7 +10,7 @@ use Rattle.inputs.specs.BuiltIn.{office}
 use Rattle.formulas.specs.Side.{Risk}
 use Rattle.formulas.specs.Formula.{none}
 use Rattle.formulas.specs.Term.{term_of, formulas_for, values_for}
-use Rattle.formulas.specs.Figures.{resident, tritium, office_on_skin, sample_of, on_skin}
+use Rattle.formulas.specs.Figures.{resident, tritium, office_on_skin, sample_of, skin_sample}
 use Rattle.guideline_rules.specs.Guideline.{guidelines_sent, guideline_of}
 
 -- a chemical with SFo 1, RfDo 0.02 and a concentration, all else zero
@@ -64,7 +64,7 @@ saturation_figures =
 -- the sample with ABS 0.1, where the scenario has soil on skin: the pathways and the total, of risk and of hazard
 unfoldable pub skin_figures : List Figure
 skin_figures =
-    let g = guidelines_sent (guideline_of office_on_skin 1 on_skin) in
+    let g = guidelines_sent (guideline_of office_on_skin 1 skin_sample) in
     (g.risk.first is dec 572319997 (negsuc 7)) ∷ (g.risk.second is zero_of) ∷ (g.risk.third is dec 145170454 (negsuc 7)) ∷
     (g.risk.total is dec 115797992 (negsuc 7)) ∷
     (g.hazard.first is dec 408799998 (negsuc 3)) ∷ (g.hazard.second is zero_of) ∷ (g.hazard.third is dec 103693181 (negsuc 3)) ∷

@@ -13,7 +13,6 @@ use Rattle.decimal.specs.Fraction.{Fraction}
 use Rattle.decimal.specs.Decimal.{zero_of, working_of}
 use Rattle.decimal.proofs.Approximation.{fair_zero, given_zero, working_fair}
 use Rattle.decimal.proofs.Ranges.{covers}
-use Rattle.inputs.specs.declared.groups.Age.{Age}
 use Rattle.inputs.specs.declared.Scenario.{Scenario}
 use Rattle.inputs.specs.declared.Contaminant.{Contaminant}
 use Rattle.inputs.specs.Valid.{valid_of, all_valid}
@@ -30,7 +29,7 @@ use Rattle.formulas.proofs.ValueBounds.{plain_stand}
 use Rattle.guideline_rules.proofs.Accepted.{Accepted, inputs_valid, accepted_inputs}
 use Rattle.guideline_rules.specs.Pathway.{any_pathway, has_pathway, either_side}
 use Rattle.guideline_rules.proofs.WorkedOut.{any_same}
-use Rattle.presence.specs.Presence.{known_of, age_known, on_skin, known_inputs, not_yet, known_values, all_known, some_known, either_known, Needed, chemical_of}
+use Rattle.presence.specs.Presence.{known_of, on_skin, known_inputs, not_yet, known_values, all_known, some_known, either_known, Needed, chemical_of}
 use Rattle.inputs.specs.Rules.{lacks_factor, Checked}
 
 -- ---- the working form of an input is zero exactly when its m is
@@ -75,16 +74,6 @@ module _ (vs : List Decimal) (qs : List Fraction) (r : Represents Up vs qs) wher
       (ap not (fair_zero total) ∙ total_present Up vs qs r {K = part_roundings} {W = part_range} (covers refl) fs s ∙ sym (any_same vs qs r fs) ∙ any_known vs fs)
       (parts_known fss e)
 
--- ---- an age and soil on skin: as the table has them
-abbrev age_as_table : Age Decimal → Bool
-age_as_table x = (known_of x.sa && (known_of x.ef && known_of x.ed)) && known_of x.bw
-
-age_lem : (x : Age Decimal) → age_known x ≡ age_as_table x
-age_lem x = simp and_assoc
-
-abbrev skin_as_table : Scenario → Contaminant → Bool
-skin_as_table s r = known_of r.abs && (known_of s.ages.af && (age_as_table s.ages.child || age_as_table s.ages.adult))
-
 -- ---- what the code tests is what the table asks, where the factors that every term names are known
 module _ (s : Scenario) (r : Contaminant) (h : Needed s) where
   abbrev air : Bool
@@ -101,9 +90,9 @@ module _ (s : Scenario) (r : Contaminant) (h : Needed s) where
   unfolding known_values derived pathways_of table
   soil_chemical_lem =
       let x = r.toxicity in
-      rw (age_lem s.ages.child, age_lem s.ages.adult, h.ef, h.ed, h.bw, h.at)
+      rw (h.ef, h.ed, h.bw, h.at)
       (simp (and-true, or-false)
-      (three_ways (known_of x.sfo) (known_of x.sfi) (known_of x.rfdo) (known_of x.rfdi) (known_of s.contact.ir) air (skin_as_table s r)))
+      (three_ways (known_of x.sfo) (known_of x.sfi) (known_of x.rfdo) (known_of x.rfdi) (known_of s.contact.ir) air (on_skin s r)))
 
   abbrev ingested : Bool
   ingested = known_of r.toxicity.sfo && known_of s.contact.ir

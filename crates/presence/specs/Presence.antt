@@ -43,7 +43,7 @@ pub record Needed (s : Scenario) : Type 0 where
 
 -- an age adds to G, and soil on skin brings a chemical into the body
 abbrev pub age_known : Age Decimal → Bool
-age_known x = known_of x.sa && (known_of x.ef && (known_of x.ed && known_of x.bw))
+age_known x = (known_of x.sa && (known_of x.ef && known_of x.ed)) && known_of x.bw
 
 abbrev pub on_skin : Scenario → Contaminant → Bool
 on_skin s r = known_of r.abs && (known_of s.ages.af && (age_known s.ages.child || age_known s.ages.adult))

@@ -24,10 +24,12 @@ fn chemical(r: Contaminant, swallowed: bool, breathed: bool) -> bool
 fn age_known(x: Age<Decimal>) -> bool
     ensures { result ≡ age_known x }
 {
-    (x.sa.m != 0) & (x.ef.m != 0) & (x.ed.m != 0) & (x.bw.m != 0)
+    let long = (x.ef.m != 0) & (x.ed.m != 0);
+    ((x.sa.m != 0) & long) & (x.bw.m != 0)
 }
 
-// Whether soil on skin brings a chemical into the body: ABS and the adherence are known, and G by the child or by the adult.
+// Whether soil on skin brings a chemical into the body: ABS and the adherence are known, and all four factors of the child or of
+// the adult.
 fn on_skin(s: Scenario, r: Contaminant) -> bool
     ensures { result ≡ on_skin s r }
 {
@@ -57,8 +59,8 @@ fn tritium(s: Scenario, r: Contaminant) -> bool
 }
 
 // Whether a contaminant has a pathway on either side. In soil: ingestion, inhalation (of a chemical where VF or PEF is
-// known), of a chemical soil on skin, and of a radionuclide external radiation; in water: ingestion, and of a chemical skin and vapour, of
-// tritium inhalation and skin.
+// known), soil on skin of a chemical, and external radiation of a radionuclide; in water: ingestion, of a chemical skin
+// and vapour, of tritium inhalation and skin.
 fn has_pathway(s: Scenario, medium: Medium, class: Class, r: Contaminant) -> bool
     requires { Needed s }
     ensures { result ≡ either_known (known_values s r) (medium_number medium) (class_number class) }

@@ -159,8 +159,8 @@ module _ {dir : Direction} {m : ℕ} {f : Factors} {p : Prepared} {t : Contamina
       ap (λ (d : Decimal). summed dir d (one_age dir f.ages.adult ∷ [])) (skip_first dir child) ∙
       skip_next dir child (adult_value dir r.factors)
 
-  pub ages_stand : m ≡ medium_number Soil → Stands ages_width p.ages (look (number_values dir f t) G)
-  ages_stand soil = stands_is (sym ages_added) (r.prepared.ages soil)
+  pub ages_stand : m ≡ medium_number Soil → Stands ages_width p.both_ages (look (number_values dir f t) G)
+  ages_stand soil = stands_is (sym ages_added) (r.prepared.both_ages soil)
 
   ages_known : ZeroByDigits (look (number_values dir f t) G)
   ages_known = subst ZeroByDigits (sym ages_added) (value_zero (ages_value dir r.factors))

@@ -1,5 +1,6 @@
 // The terms of the three pathways on each side, for a chemical, a radionuclide and tritium, in soil and in water. A term whose
-// pathway is absent is zero: a zero factor makes the product zero, and a zero divisor the quotient. In each function e is the
+// pathway is absent is zero: a zero factor makes the product zero, and a zero divisor the quotient. Soil on skin is worked out only
+// where ABS and G are not zero. In each function e is the
 // exposure and k the contact of the scenario, x the toxicity of the contaminant.
 ghost use Rattle.std.specs.Prelude.{◌≡◌};
 ghost use Rattle.rounding.specs.Operations.{sum_of};
@@ -217,8 +218,8 @@ fn skin_terms(f: &Factors, p: &Prepared, t: &ContaminantNumbers, dir: Direction)
 {
     let x = t.toxicity;
     let af = f.ages.af;
-    let risk = product3(product3(x.sfo, t.abs, af, dir), MILLIONTH, p.ages, dir);
-    let hazard = product3(t.abs, af, MILLIONTH, dir).mul(p.ages, dir);
+    let risk = product3(product3(x.sfo, t.abs, af, dir), MILLIONTH, p.both_ages, dir);
+    let hazard = product3(t.abs, af, MILLIONTH, dir).mul(p.both_ages, dir);
     let dose = product3(x.rfdo, f.exposure.ed, DAYS, dir.opposite());
     Sides {
         risk: risk.div(p.averaging, dir),
@@ -231,7 +232,7 @@ fn on_skin(f: &Factors, p: &Prepared, t: &ContaminantNumbers, dir: Direction) ->
     requires { Ready dir (medium_number Soil) f.now p.now t.now }
     ensures { SkinFor dir f.now t.now result }
 {
-    if (t.abs.m == 0) | (p.ages.m == 0) {
+    if (t.abs.m == 0) | (p.both_ages.m == 0) {
         return Sides {
             risk: Number::ZERO,
             hazard: Number::ZERO,

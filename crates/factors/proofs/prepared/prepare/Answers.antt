@@ -46,6 +46,6 @@ returns c =
       vapour_intake = stands_mul3 dir (factor IRA) half_stands (factor EF) (lit≤ tt) c.product3-vapour_intake.ensures.0;
       inverse_pef = stands_div dir unit_stands (factor PEF) (lit≤ tt) c.div-inverse_pef.ensures.0;
       hours = c.hours-hours.ensures;
-      ages = c.ages-ages.ensures;
+      both_ages = c.both_ages-both_ages.ensures;
       averaging = rw (← c.opposite-2.ensures) (stands_mul c.opposite-2.result (factor AT) days_stands (lit≤ tt) c.mul-averaging.ensures.0);
     }

@@ -33,12 +33,12 @@ module _ {dir : Direction} {medium : ℕ} {f : Factors} {p : Prepared} {t : Cont
   unfolding number_values derived
   abs_zero h = ap (λ (d : Decimal). eqb d.m 0) (decimal_zero t.abs (eqb-true t.abs.m 0 h))
 
-  ages_zero : eqb p.ages.m 0 ≡ true → eqb (look (number_values dir f t) G).m 0 ≡ true
-  ages_zero h = ap (λ (d : Decimal). eqb d.m 0) (sym (ages_stand ready soil).is ∙ decimal_zero p.ages (eqb-true p.ages.m 0 h))
+  ages_zero : eqb p.both_ages.m 0 ≡ true → eqb (look (number_values dir f t) G).m 0 ≡ true
+  ages_zero h = ap (λ (d : Decimal). eqb d.m 0) (sym (ages_stand ready soil).is ∙ decimal_zero p.both_ages (eqb-true p.both_ages.m 0 h))
 
   zero_term : (g : Formula) (i j : ℕ) → i < length g.before → get_or g.before i 0 ≡ ABS → j < length g.before → get_or g.before j 0 ≡ G →
-      eqb t.abs.m 0 || eqb p.ages.m 0 ≡ true → Stands formula_width no_number (term_of (number_values dir f t) dir g)
-  zero_term g i j k abs l ages = cases (eqb t.abs.m 0) (eqb p.ages.m 0) refl refl
+      eqb t.abs.m 0 || eqb p.both_ages.m 0 ≡ true → Stands formula_width no_number (term_of (number_values dir f t) dir g)
+  zero_term g i j k abs l ages = cases (eqb t.abs.m 0) (eqb p.both_ages.m 0) refl refl
     where
       vs : List Decimal
       vs = number_values dir f t
@@ -46,7 +46,7 @@ module _ {dir : Direction} {medium : ℕ} {f : Factors} {p : Prepared} {t : Cont
       none : term_of vs dir g ≡ zero_of → Stands formula_width no_number (term_of vs dir g)
       none e = stands_is (sym e) (stands_most (lit≤ tt) zero_stands)
 
-      cases : (a b : Bool) → eqb t.abs.m 0 ≡ a → eqb p.ages.m 0 ≡ b → a || b ≡ true → Stands formula_width no_number (term_of vs dir g)
+      cases : (a b : Bool) → eqb t.abs.m 0 ≡ a → eqb p.both_ages.m 0 ≡ b → a || b ≡ true → Stands formula_width no_number (term_of vs dir g)
       cases true b e h o = none (zero_factor vs dir g i k (ap (λ (n : ℕ). eqb (look vs n).m 0) abs ∙ abs_zero e))
       cases false true e h o = none (zero_factor vs dir g j l (ap (λ (n : ℕ). eqb (look vs n).m 0) ages ∙ ages_zero h))
       cases false false e h o = absurd (false≢true o)

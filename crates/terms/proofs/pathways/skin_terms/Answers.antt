@@ -22,11 +22,11 @@ use Rattle.terms.proofs.pathways.skin_terms.Goals as goal
 -- ---- what the code multiplies by G
 module _ {dir : Direction} {medium : ℕ} {f : Factors} {p : Prepared} {t : ContaminantNumbers} (ready : Ready dir medium f p t) (soil : medium ≡ medium_number Soil) where
   absorbed : {a b : Number} → a ≡ product_of dir (product_of dir (number ready SFo) (number ready ABS)) (number ready AF) →
-      b ≡ product_of dir (product_of dir a (number ready Millionth)) p.ages →
+      b ≡ product_of dir (product_of dir a (number ready Millionth)) p.both_ages →
       Stands (three_width + input_width + ages_width + 2) b (named dir f t (SFo ∷ ABS ∷ AF ∷ Millionth ∷ G ∷ []))
   absorbed e g = stands_mul3 dir (three_inputs ready SFo ABS AF e) (input ready Millionth) (ages_stand ready soil) (lit≤ tt) g
 
-  dosed : {a b : Number} → a ≡ product_of dir (product_of dir (number ready ABS) (number ready AF)) (number ready Millionth) → b ≡ product_of dir a p.ages →
+  dosed : {a b : Number} → a ≡ product_of dir (product_of dir (number ready ABS) (number ready AF)) (number ready Millionth) → b ≡ product_of dir a p.both_ages →
       Stands (three_width + ages_width + 1) b (named dir f t (ABS ∷ AF ∷ Millionth ∷ G ∷ []))
   dosed e g = stands_mul dir (three_inputs ready ABS AF Millionth e) (ages_stand ready soil) (lit≤ tt) g
 

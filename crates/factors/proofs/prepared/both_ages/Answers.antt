@@ -1,8 +1,8 @@
--- `factors::prepared::ages`: both parts added up; in water nothing is asked.
+-- `factors::prepared::both_ages`: both parts added up; in water nothing is asked.
 use lib.Dec.{lit≤}
 use Rattle.factors.proofs.StandsLaws.{stands_operand}
 use Rattle.factors.proofs.Ages.{child_inputs, adult_inputs, ages_stand}
-use Rattle.factors.proofs.prepared.ages.Goals as goal
+use Rattle.factors.proofs.prepared.both_ages.Goals as goal
 
 pub one_age-child-requires : goal.one_age-child-requires
 one_age-child-requires c = child_inputs c.args.dir c.requires
