@@ -8,3 +8,4 @@ pub mod ExampleSums
 pub mod AnswerBounds
 pub mod Classes
 pub mod WithoutSaturation
+pub mod WithoutSkin

@@ -1,0 +1,74 @@
+-- In water refusals, sums and verdicts do not look at ages and ABS that keep their rule: a list with others has the same answer. Assumes nothing.
+use mathlib.Core.Path.{◌≡◌, refl, sym, ap, ◌∙◌}
+use mathlib.Core.Bool.{Bool, true, cond, not, ◌&&◌, ◌||◌}
+use mathlib.Core.List.{List, [], ◌∷◌, map}
+use Prim.Native.Nat.{ℕ, ◌+◌}
+use lib.Dec.{leb}
+use lib.ListN.{length-map, take}
+use Rattle.rounding.specs.declared.Direction.TheVariants.{Down, Up}
+use Rattle.decimal.specs.declared.Decimal.{Decimal}
+use Rattle.decimal.specs.Decimal.{add_of, mul_of}
+use Rattle.outcome.specs.declared.Refusal.TheVariants.{Length, Field, Factor, Order}
+use Rattle.outcome.specs.Outcome.{test, refused_by, refused, passing}
+use Rattle.inputs.specs.declared.groups.Ages.{Ages}
+use Rattle.inputs.specs.declared.Scenario.{Scenario}
+use Rattle.inputs.specs.declared.Contaminant.{Contaminant}
+use Rattle.inputs.specs.declared.earlier.Earlier.{Earlier}
+use Rattle.inputs.specs.declared.kind.Medium.TheVariants.{Soil}
+use Rattle.inputs.specs.Kinds.{medium_number}
+use Rattle.inputs.specs.Earlier.{none_before, before_next}
+use Rattle.inputs.specs.Inputs.{ages_decimals, scenario_decimals}
+use Rattle.inputs.specs.Valid.{valid_of, all_valid}
+use Rattle.inputs.specs.Rules.{most_contaminants, one_to, most_medium, scenario_fits, lacks_factor, contaminant_fits}
+use Rattle.inputs.proofs.Tests.{and_split, valid_join}
+use Rattle.formulas.specs.Side.{Side, Risk, Hazard}
+use Rattle.guideline_rules.specs.Skin.{ChemicalInSoil, with_ages, with_abs}
+use Rattle.guideline_rules.proofs.SoilOnSkin.{pathway_without_skin, refusal_without_skin, total_without_skin}
+use Rattle.sum_rules.specs.Share.{Running, start, next, term_sum, used_of, share_of}
+use Rattle.sum_rules.specs.ListCall.{first_refusal, walk, sums_of}
+
+module _ (s : Scenario) (medium : ℕ) (water : medium ≡ medium_number Soil → ⊥) (a : Ages Decimal) (d : Decimal) where
+  not_soil : (r : Contaminant) → ChemicalInSoil medium r → ⊥
+  not_soil r c = water c.soil
+
+  next_same : (side : Side) (t : Running) (r : Contaminant) → next (with_ages a s) medium side t (with_abs d r) ≡ next s medium side t r
+  unfolding share_of term_sum used_of
+  next_same side t r = λ i. record {
+    lower = add_of t.lower (mul_of (used_of r Down) (total_without_skin s medium r a d (not_soil r) Down side i) Down) Down;
+    upper = add_of t.upper (mul_of (used_of r Up) (total_without_skin s medium r a d (not_soil r) Up side i) Up) Up;
+    any = t.any || pathway_without_skin s medium r a d (not_soil r) side i;
+  }
+
+  module _ (abs : valid_of d ≡ true) where
+    fits_same : (r : Contaminant) → valid_of r.abs ≡ true → contaminant_fits (with_abs d r) ≡ contaminant_fits r
+    fits_same r h = rw (abs, h) refl
+
+    walk_same : (rs : List Contaminant) (n : ℕ) (before : Earlier) (x y : Running) → all_valid (map (λ (r : Contaminant). r.abs) rs) ≡ true →
+        walk (with_ages a s) medium (map (with_abs d) rs) n before x y ≡ walk s medium rs n before x y
+    unfolding walk
+    walk_same [] n before x y z = refl
+    walk_same (r ∷ rs) n before x y z =
+        let p = and_split (valid_of r.abs) _ z in
+        let risk = next s medium Risk x r in
+        let hazard = next s medium Hazard y r in
+        let rest =
+        (λ i. walk (with_ages a s) medium (map (with_abs d) rs) (n + 1) (before_next before r) (next_same Risk x r i) (next_same Hazard y r i)) ∙
+        walk_same rs (n + 1) (before_next before r) risk hazard p.1 in
+        λ i. cond (fits_same r p.0 i)
+        (cond (leb r.id before.id) (refused Order n) (passing (refusal_without_skin s medium r a d (not_soil r) before i) n (rest i)))
+        (refused Field n)
+
+    -- the scenario's other decimals, and those of the ages
+    scenario_same : all_valid (ages_decimals a) ≡ true → all_valid (ages_decimals s.ages) ≡ true → scenario_fits (with_ages a s) medium ≡ scenario_fits s medium
+    scenario_same h k =
+        let others = take 20 (scenario_decimals s) in
+        ap (λ (b : Bool). one_to most_medium medium && b)
+        (valid_join others (ages_decimals a) ∙ ap (λ (b : Bool). all_valid others && b) (h ∙ sym k) ∙ sym (valid_join others (ages_decimals s.ages)))
+
+    pub sums_without_skin : (rs : List Contaminant) → all_valid (ages_decimals a) ≡ true → all_valid (ages_decimals s.ages) ≡ true →
+        all_valid (map (λ (r : Contaminant). r.abs) rs) ≡ true → sums_of (with_ages a s) medium (map (with_abs d) rs) ≡ sums_of s medium rs
+    unfolding sums_of first_refusal
+    sums_without_skin rs h k z =
+        let n = length-map rs (with_abs d) in
+        (λ i. passing (refused_by (test Length (not (leb 1 (n i) && leb (n i) most_contaminants)) ∷ test Field (not (scenario_same h k i)) ∷ test Factor (lacks_factor s) ∷ [])) 0
+        (walk_same rs 1 none_before start start z i))
