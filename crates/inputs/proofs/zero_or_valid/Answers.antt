@@ -1,6 +1,8 @@
 -- `inputs::zero_or_valid`: (0, 0) keeps its rule.
-use Rattle.std.proofs.Common.{arith, refl}
+use Rattle.std.proofs.Common.{◌≡◌, arith, refl}
 use lib.Dec.{eqb}
+use mir.Syntax.{w32}
+use mir.Val.{of_z}
 use borrow.Author.Tests.{eqb-true}
 use Rattle.decimal.proofs.Bias.{zero_passed}
 use Rattle.inputs.specs.Valid.{valid_of}
@@ -12,4 +14,5 @@ unfolding valid_of
 returns-then-d c =
     let d = c.args.d in
     let both = and_split (eqb d.m 0) _ c.if-d.true in
-    rw (eqb-true d.m 0 both.0, zero_passed d.e (omega arith) (eqb-true _ 0 both.1)) refl
+    let e : of_z w32 d.e ≡ 0 = eqb-true (of_z w32 d.e) 0 both.1 in
+    rw (eqb-true d.m 0 both.0, zero_passed d.e (omega arith) e) refl
