@@ -78,6 +78,7 @@ pub fn get_header(part: &[u8], at: usize) -> Header
 
 // Whether the unused bytes are zero from the gap of 24 bytes at `at` on, behind which n decimals and so many further bytes stand. It
 // stands by itself, so that blocks with nothing there do not pay for it.
+#[cold]
 #[inline(never)]
 fn gap_unused(part: &[u8], at: usize, n: usize, rest: usize) -> bool
     requires { at + (24 + (8 * n + rest)) ≤ length part.now }

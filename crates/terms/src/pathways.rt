@@ -211,6 +211,7 @@ fn no_side() -> PathwayTerms
 }
 
 // Soil on skin, of risk and of hazard. It stands by itself, so that records without it do not pay for its room.
+#[cold]
 #[inline(never)]
 fn skin_terms(f: &Factors, p: &Prepared, t: &ContaminantNumbers, dir: Direction) -> Sides<Number>
     requires { Ready dir (medium_number Soil) f.now p.now t.now }
