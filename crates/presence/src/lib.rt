@@ -24,8 +24,8 @@ fn chemical(r: Contaminant, swallowed: bool, breathed: bool) -> bool
 fn age_known(x: Age<Decimal>) -> bool
     ensures { result ≡ age_known x }
 {
-    let long = (x.ef.m != 0) & (x.ed.m != 0);
-    ((x.sa.m != 0) & long) & (x.bw.m != 0)
+    let exposed = (x.ef.m != 0) & (x.ed.m != 0);
+    ((x.sa.m != 0) & exposed) & (x.bw.m != 0)
 }
 
 // Whether soil on skin brings a chemical into the body: ABS and the adherence are known, and all four factors of the child or of

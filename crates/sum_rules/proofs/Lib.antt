@@ -7,5 +7,6 @@ pub mod OnTheWay
 pub mod ExampleSums
 pub mod AnswerBounds
 pub mod Classes
+pub mod Mapped
 pub mod WithoutSaturation
 pub mod WithoutSkin

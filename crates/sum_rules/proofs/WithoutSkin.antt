@@ -1,31 +1,30 @@
 -- In water refusals, sums and verdicts do not look at ages and ABS that keep their rule: a list with others has the same answer. Assumes nothing.
 use mathlib.Core.Path.{◌≡◌, refl, sym, ap, ◌∙◌}
-use mathlib.Core.Bool.{Bool, true, cond, not, ◌&&◌, ◌||◌}
+use mathlib.Core.Bool.{Bool, true, not, ◌&&◌, ◌||◌}
 use mathlib.Core.List.{List, [], ◌∷◌, map}
-use Prim.Native.Nat.{ℕ, ◌+◌}
+use Prim.Native.Nat.{ℕ}
 use lib.Dec.{leb}
-use lib.ListN.{length-map, take}
+use lib.ListN.{take}
 use Rattle.rounding.specs.declared.Direction.TheVariants.{Down, Up}
 use Rattle.decimal.specs.declared.Decimal.{Decimal}
 use Rattle.decimal.specs.Decimal.{add_of, mul_of}
-use Rattle.outcome.specs.declared.Refusal.TheVariants.{Length, Field, Factor, Order}
-use Rattle.outcome.specs.Outcome.{test, refused_by, refused, passing}
+use Rattle.outcome.specs.declared.Refusal.TheVariants.{Length, Field, Factor}
+use Rattle.outcome.specs.Outcome.{test, refused_by}
 use Rattle.inputs.specs.declared.groups.Ages.{Ages}
 use Rattle.inputs.specs.declared.Scenario.{Scenario}
 use Rattle.inputs.specs.declared.Contaminant.{Contaminant}
-use Rattle.inputs.specs.declared.earlier.Earlier.{Earlier}
 use Rattle.inputs.specs.declared.kind.Medium.TheVariants.{Soil}
 use Rattle.inputs.specs.Kinds.{medium_number}
-use Rattle.inputs.specs.Earlier.{none_before, before_next}
 use Rattle.inputs.specs.Inputs.{ages_decimals, scenario_decimals}
 use Rattle.inputs.specs.Valid.{valid_of, all_valid}
 use Rattle.inputs.specs.Rules.{most_contaminants, one_to, most_medium, scenario_fits, lacks_factor, contaminant_fits}
-use Rattle.inputs.proofs.Tests.{and_split, valid_join}
-use Rattle.formulas.specs.Side.{Side, Risk, Hazard}
+use Rattle.inputs.proofs.Tests.{valid_join}
+use Rattle.formulas.specs.Side.{Side}
 use Rattle.guideline_rules.specs.Skin.{ChemicalInSoil, with_ages, with_abs}
 use Rattle.guideline_rules.proofs.SoilOnSkin.{pathway_without_skin, refusal_without_skin, total_without_skin}
-use Rattle.sum_rules.specs.Share.{Running, start, next, term_sum, used_of, share_of}
-use Rattle.sum_rules.specs.ListCall.{first_refusal, walk, sums_of}
+use Rattle.sum_rules.specs.Share.{Running, next, term_sum, used_of, share_of}
+use Rattle.sum_rules.specs.ListCall.{first_refusal, sums_of}
+use Rattle.sum_rules.proofs.Mapped.{SameRecord, sums_mapped}
 
 module _ (s : Scenario) (medium : ℕ) (water : medium ≡ medium_number Soil → ⊥) (a : Ages Decimal) (d : Decimal) where
   not_soil : (r : Contaminant) → ChemicalInSoil medium r → ⊥
@@ -43,20 +42,14 @@ module _ (s : Scenario) (medium : ℕ) (water : medium ≡ medium_number Soil �
     fits_same : (r : Contaminant) → valid_of r.abs ≡ true → contaminant_fits (with_abs d r) ≡ contaminant_fits r
     fits_same r h = rw (abs, h) refl
 
-    walk_same : (rs : List Contaminant) (n : ℕ) (before : Earlier) (x y : Running) → all_valid (map (λ (r : Contaminant). r.abs) rs) ≡ true →
-        walk (with_ages a s) medium (map (with_abs d) rs) n before x y ≡ walk s medium rs n before x y
-    unfolding walk
-    walk_same [] n before x y z = refl
-    walk_same (r ∷ rs) n before x y z =
-        let p = and_split (valid_of r.abs) _ z in
-        let risk = next s medium Risk x r in
-        let hazard = next s medium Hazard y r in
-        let rest =
-        (λ i. walk (with_ages a s) medium (map (with_abs d) rs) (n + 1) (before_next before r) (next_same Risk x r i) (next_same Hazard y r i)) ∙
-        walk_same rs (n + 1) (before_next before r) risk hazard p.1 in
-        λ i. cond (fits_same r p.0 i)
-        (cond (leb r.id before.id) (refused Order n) (passing (refusal_without_skin s medium r a d (not_soil r) before i) n (rest i)))
-        (refused Field n)
+    each_same : (r : Contaminant) → valid_of r.abs ≡ true → SameRecord (with_ages a s) s medium (with_abs d r) r
+    each_same r h = record {
+      fits = fits_same r h;
+      id = refl;
+      behind = λ before. refl;
+      refusal = refusal_without_skin s medium r a d (not_soil r);
+      step = λ side t. next_same side t r;
+    }
 
     -- the scenario's other decimals, and those of the ages
     scenario_same : all_valid (ages_decimals a) ≡ true → all_valid (ages_decimals s.ages) ≡ true → scenario_fits (with_ages a s) medium ≡ scenario_fits s medium
@@ -67,8 +60,7 @@ module _ (s : Scenario) (medium : ℕ) (water : medium ≡ medium_number Soil �
 
     pub sums_without_skin : (rs : List Contaminant) → all_valid (ages_decimals a) ≡ true → all_valid (ages_decimals s.ages) ≡ true →
         all_valid (map (λ (r : Contaminant). r.abs) rs) ≡ true → sums_of (with_ages a s) medium (map (with_abs d) rs) ≡ sums_of s medium rs
-    unfolding sums_of first_refusal
+    unfolding first_refusal
     sums_without_skin rs h k z =
-        let n = length-map rs (with_abs d) in
-        (λ i. passing (refused_by (test Length (not (leb 1 (n i) && leb (n i) most_contaminants)) ∷ test Field (not (scenario_same h k i)) ∷ test Factor (lacks_factor s) ∷ [])) 0
-        (walk_same rs 1 none_before start start z i))
+        sums_mapped (with_ages a s) s medium (with_abs d) (λ (r : Contaminant). r.abs) each_same (λ x y. refl)
+        (λ n i. refused_by (test Length (not (leb 1 n && leb n most_contaminants)) ∷ test Field (not (scenario_same h k i)) ∷ test Factor (lacks_factor s) ∷ [])) rs z

@@ -23,7 +23,7 @@ use Rattle.decimal.specs.Range.{ends}
 use Rattle.factors.proofs.Hours.{shower_value, hours_value}
 use Rattle.factors.proofs.Ages.{child_value, adult_value, ages_value}
 use Rattle.formulas.specs.Side.{Side}
-use Rattle.formulas.specs.Formula.{◌÷◌, none, B, H, G, One, ET, F, N, S, Vol, L, W, VF, PEF, no_pathways, pathways_of, derived, derived_places}
+use Rattle.formulas.specs.Formula.{Formula, ◌÷◌, none, B, H, G, One, ET, F, N, S, Vol, L, W, VF, PEF, no_pathways, pathways_of, derived, derived_places}
 use Rattle.formulas.specs.Formula.{ChildSA, ChildEF, ChildED, ChildBW, AdultSA, AdultEF, AdultED, AdultBW}
 use Rattle.formulas.specs.Term.{look, constants, present_of, evaluated, term_of, total_of}
 use Rattle.factors.specs.Stands.{Stands, StandAll, factor_numbers, contaminant_numbers}
@@ -85,6 +85,16 @@ module _ {dir : Direction} {m : ℕ} {f : Factors} {p : Prepared} {t : Contamina
   unfolding plain
   plain_known n = fronted (worked (λ e. refl) (worked (λ e. refl) (worked (λ e. refl) bare))) (number_inputs f t) input_known n
 
+  -- two parts, each the term of a formula, added up
+  two_parts : (g h : Formula) {a b : Decimal} {v w : ℕ} → term_of plain dir g ≡ a → term_of plain dir h ≡ b → Value (ends v v) a → Value (ends w w) b →
+      total_of plain dir (g ∷ h ∷ []) ≡ add_of a b dir
+  unfolding total_of
+  two_parts g h {a} {b} e k x y =
+      ap (λ (d : Decimal). summed dir zero_of (d ∷ term_of plain dir h ∷ [])) e ∙
+      ap (λ (d : Decimal). summed dir zero_of (a ∷ d ∷ [])) k ∙
+      ap (λ (d : Decimal). summed dir d (b ∷ [])) (skip_first dir x) ∙
+      skip_next dir x y
+
   -- the two parts of B
   vf_term : term_of plain dir ((One ∷ []) ÷ (VF ∷ [])) ≡ div_of unit (decimal_of t.transfer.vf) dir
   unfolding plain
@@ -103,12 +113,8 @@ module _ {dir : Direction} {m : ℕ} {f : Factors} {p : Prepared} {t : Contamina
   vf_stands = stands_div dir unit_stands (input VF) (lit≤ tt) refl
 
   added : look (number_values dir f t) B ≡ add_of (div_of unit (decimal_of t.transfer.vf) dir) (div_of unit (decimal_of f.contact.pef) dir) dir
-  unfolding number_values derived total_of plain
-  added =
-      ap (λ (d : Decimal). summed dir zero_of (d ∷ term_of plain dir ((One ∷ []) ÷ (PEF ∷ [])) ∷ [])) vf_term ∙
-      ap (λ (d : Decimal). summed dir zero_of (div_of unit (decimal_of t.transfer.vf) dir ∷ d ∷ [])) pef_term ∙
-      ap (λ (d : Decimal). summed dir d (div_of unit (decimal_of f.contact.pef) dir ∷ [])) (skip_first dir (stands_value (lit≤ tt) vf_stands)) ∙
-      skip_next dir (stands_value (lit≤ tt) vf_stands) (stands_value (lit≤ tt) r.prepared.inverse_pef)
+  unfolding number_values derived plain
+  added = two_parts ((One ∷ []) ÷ (VF ∷ [])) ((One ∷ []) ÷ (PEF ∷ [])) vf_term pef_term (stands_value (lit≤ tt) vf_stands) (stands_value (lit≤ tt) r.prepared.inverse_pef)
 
   pub air_stands : Stands (two_width + 1) air_number (look (number_values dir f t) B)
   unfolding air_number
@@ -128,12 +134,8 @@ module _ {dir : Direction} {m : ℕ} {f : Factors} {p : Prepared} {t : Contamina
   et_value = stands_value (lit≤ tt) (input ET)
 
   hours_added : look (number_values dir f t) H ≡ hours_of dir f
-  unfolding number_values derived total_of plain
-  hours_added =
-      ap (λ (d : Decimal). summed dir zero_of (d ∷ term_of plain dir ((F ∷ N ∷ S ∷ Vol ∷ []) ÷ (L ∷ W ∷ [])) ∷ [])) et_term ∙
-      ap (λ (d : Decimal). summed dir zero_of (decimal_of f.contact.et ∷ d ∷ [])) shower_term ∙
-      ap (λ (d : Decimal). summed dir d (shower_of dir f ∷ [])) (skip_first dir et_value) ∙
-      skip_next dir et_value (shower_value dir r.factors)
+  unfolding number_values derived plain
+  hours_added = two_parts ((ET ∷ []) ÷ []) ((F ∷ N ∷ S ∷ Vol ∷ []) ÷ (L ∷ W ∷ [])) et_term shower_term et_value (shower_value dir r.factors)
 
   pub hours_stands : m ≡ medium_number Water → Stands hours_width p.hours (look (number_values dir f t) H)
   hours_stands water = stands_is (sym hours_added) (r.prepared.hours water)
@@ -151,13 +153,10 @@ module _ {dir : Direction} {m : ℕ} {f : Factors} {p : Prepared} {t : Contamina
   adult_term = term_evaluated plain plain_known dir ((AdultSA ∷ AdultEF ∷ AdultED ∷ []) ÷ (AdultBW ∷ []))
 
   ages_added : look (number_values dir f t) G ≡ both_ages dir f
-  unfolding number_values derived total_of plain
+  unfolding number_values derived plain
   ages_added =
-      let child = child_value dir r.factors in
-      ap (λ (d : Decimal). summed dir zero_of (d ∷ term_of plain dir ((AdultSA ∷ AdultEF ∷ AdultED ∷ []) ÷ (AdultBW ∷ [])) ∷ [])) child_term ∙
-      ap (λ (d : Decimal). summed dir zero_of (one_age dir f.ages.child ∷ d ∷ [])) adult_term ∙
-      ap (λ (d : Decimal). summed dir d (one_age dir f.ages.adult ∷ [])) (skip_first dir child) ∙
-      skip_next dir child (adult_value dir r.factors)
+      two_parts ((ChildSA ∷ ChildEF ∷ ChildED ∷ []) ÷ (ChildBW ∷ [])) ((AdultSA ∷ AdultEF ∷ AdultED ∷ []) ÷ (AdultBW ∷ []))
+      child_term adult_term (child_value dir r.factors) (adult_value dir r.factors)
 
   pub ages_stand : m ≡ medium_number Soil → Stands ages_width p.both_ages (look (number_values dir f t) G)
   ages_stand soil = stands_is (sym ages_added) (r.prepared.both_ages soil)
