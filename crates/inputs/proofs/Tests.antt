@@ -12,8 +12,10 @@ use Rattle.decimal.specs.Exponent.{raised}
 use Rattle.decimal.specs.Decimal.{zero_of}
 use Rattle.inputs.specs.declared.Scenario.{Scenario}
 use Rattle.inputs.specs.declared.Contaminant.{Contaminant}
-use Rattle.inputs.specs.Inputs.{scenario_decimals, toxicity_decimals, transfer_decimals, formula_decimals, contaminant_decimals, scenario_places, contaminant_places}
-use Rattle.inputs.specs.Inputs.{exposure_of, contact_of, targets_of, house_of, age_of, ages_of, toxicity_of, transfer_of, scenario_of, contaminant_of}
+use Rattle.inputs.specs.declared.kind.Inhalation.{Inhalation}
+use Rattle.inputs.specs.declared.kind.Inhalation.TheVariants.{Intake, Concentration}
+use Rattle.inputs.specs.Inputs.{scenario_decimals, toxicity_decimals, transfer_decimals, air_decimals, toxicity_in_air, formula_decimals, contaminant_decimals, scenario_places, contaminant_places}
+use Rattle.inputs.specs.Inputs.{exposure_of, contact_of, targets_of, house_of, age_of, ages_of, toxicity_of, transfer_of, air_of, scenario_of, contaminant_of}
 use Rattle.inputs.specs.Valid.{valid_of, all_valid}
 use Rattle.inputs.specs.Rules.{one_to, OneTo}
 
@@ -55,21 +57,30 @@ valid_append (d ∷ ds) y h k = let a = and_split (valid_of d) (all_valid ds) h 
 
 -- what the formulas name of a contaminant, C, and the saturation: each keeps its rule where all of its decimals do
 pub record ValidParts (r : Contaminant) : Type 0 where
-  pub formulas : all_valid (formula_decimals r) ≡ true
+  pub formulas : (i : Inhalation) → all_valid (formula_decimals i r) ≡ true
   pub c : valid_of r.c ≡ true
   pub saturation : valid_of r.saturation ≡ true
 
 pub contaminant_parts : (r : Contaminant) → all_valid (contaminant_decimals r) ≡ true → ValidParts r
+unfolding valid_of
 contaminant_parts r h =
     let all = contaminant_decimals r in
     let x = valid_parts (toxicity_decimals r.toxicity) (drop 5 all) h in
     let y = valid_parts (transfer_decimals r.transfer) (drop 7 all) x.1 in
-    let abs : all_valid (r.abs ∷ []) ≡ true = rw (valid_at all h 9) refl in
+    let z = valid_parts (r.c ∷ (r.saturation ∷ [])) (drop 9 all) y.1 in
     record {
-      formulas = valid_append (toxicity_decimals r.toxicity) (transfer_decimals r.transfer ++ (r.abs ∷ [])) x.0 (valid_append (transfer_decimals r.transfer) (r.abs ∷ []) y.0 abs);
+      formulas = λ i.
+          let last = air_decimals (toxicity_in_air i r) ++ (r.abs ∷ []) in
+          valid_append (toxicity_decimals r.toxicity) (transfer_decimals r.transfer ++ last) x.0
+          (valid_append (transfer_decimals r.transfer) last y.0 (in_air z.1 (valid_at all h 11) i));
       c = valid_at all h 7;
       saturation = valid_at all h 8;
     }
+  where
+    in_air : all_valid (air_decimals r.in_air ++ (r.abs ∷ [])) ≡ true → valid_of r.abs ≡ true → (i : Inhalation) →
+        all_valid (air_decimals (toxicity_in_air i r) ++ (r.abs ∷ [])) ≡ true
+    in_air later abs Intake = rw abs refl
+    in_air later abs Concentration = later
 
 -- the targets of a scenario
 pub target_parts : (s : Scenario) → all_valid (scenario_decimals s) ≡ true → (valid_of s.targets.tr ≡ true) × (valid_of s.targets.thi ≡ true)
@@ -81,12 +92,12 @@ pub one_to_lem : (most n : ℕ) → one_to most n ≡ true → OneTo most n
 one_to_lem most n h = let a = and_split (leb 1 n) (leb n most) h in (leb-true 1 n a.0, leb-true n most a.1)
 
 -- ---- a record comes back out of the list of its decimals
-pub scenario_of_lem : (s : Scenario) → scenario_of (scenario_decimals s) ≡ s
+pub scenario_of_lem : (s : Scenario) → scenario_of s.inhalation (scenario_decimals s) ≡ s
 unfolding scenario_of exposure_of contact_of targets_of house_of age_of ages_of
 scenario_of_lem s = refl
 
 pub contaminant_of_lem : (r : Contaminant) → contaminant_of r.class r.id (contaminant_decimals r) ≡ r
-unfolding contaminant_of toxicity_of transfer_of
+unfolding contaminant_of toxicity_of transfer_of air_of
 contaminant_of_lem r = refl
 
 pub scenario_places_lem : (s : Scenario) → length (scenario_decimals s) ≡ scenario_places

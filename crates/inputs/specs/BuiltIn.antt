@@ -1,5 +1,5 @@
--- The three built-in scenarios (docs/SPECIFICATION.md, "Built-in scenarios"), with their pairs (m, e) fixed: a whole number below 1,000 has e = 0,
--- any other value the digits that are printed there.
+-- The three built-in scenarios (docs/SPECIFICATION.md, "Built-in scenarios"), with inhalation by intake, and with their pairs (m, e) fixed: a whole
+-- number below 1,000 has e = 0, any other value the digits that are printed there.
 use Rattle.std.specs.Prelude.{cond, [], ℕ, eqb, pos, negsuc, Result, Ok, Err}
 use Rattle.outcome.specs.declared.Refused.{Refused}
 use Rattle.outcome.specs.declared.Refusal.TheVariants.{Scenario as NoScenario}
@@ -9,6 +9,7 @@ use Rattle.decimal.specs.declared.Decimal.{Decimal}
 use Rattle.inputs.specs.declared.groups.House.{House}
 use Rattle.inputs.specs.declared.groups.Age.{Age}
 use Rattle.inputs.specs.declared.groups.Ages.{Ages}
+use Rattle.inputs.specs.declared.kind.Inhalation.TheVariants.{Intake}
 use Rattle.inputs.specs.declared.Scenario.{Scenario}
 use Rattle.inputs.specs.declared.Contaminant.{Contaminant}
 use Rattle.inputs.specs.Inputs.{scenario_of, contaminant_of}
@@ -31,7 +32,9 @@ office = record {
   contact = record { ir = dec 50 (pos 0); ira = dec 20 (pos 0); pef = dec 428 (pos 7); et = dec 0 (pos 0); rf = dec 0 (pos 0); sa = dec 0 (pos 0) };
   targets = record { tr = dec 1 (negsuc 5); thi = dec 1 (pos 0) };
   house = no_house;
+  air_hours = dec 0 (pos 0);
   ages = no_ages;
+  inhalation = Intake;
 }
 
 -- 2 archeologist (004)
@@ -41,7 +44,9 @@ archeologist = record {
   contact = record { ir = dec 200 (pos 0); ira = dec 15 (pos 0); pef = dec 5 (pos 6); et = dec 8 (pos 0); rf = dec 1 (pos 0); sa = dec 0 (pos 0) };
   targets = record { tr = dec 1 (negsuc 5); thi = dec 1 (pos 0) };
   house = no_house;
+  air_hours = dec 0 (pos 0);
   ages = no_ages;
+  inhalation = Intake;
 }
 
 -- 3 bird watcher (004)
@@ -51,12 +56,14 @@ bird_watcher = record {
   contact = record { ir = dec 25 (pos 0); ira = dec 5 (pos 0); pef = dec 2 (pos 7); et = dec 4 (pos 0); rf = dec 8 (negsuc 0); sa = dec 0 (pos 0) };
   targets = record { tr = dec 1 (negsuc 5); thi = dec 1 (pos 0) };
   house = no_house;
+  air_hours = dec 0 (pos 0);
   ages = no_ages;
+  inhalation = Intake;
 }
 
--- zero decimals
+-- zero decimals, inhalation by intake
 abbrev pub blank : Scenario
-blank = scenario_of []
+blank = scenario_of Intake []
 
 -- a contaminant of class 0 and id 0, which keeps no rule
 abbrev pub no_contaminant : Contaminant

@@ -8,9 +8,12 @@ use Rattle.inputs.specs.declared.groups.Targets.{Targets}
 use Rattle.inputs.specs.declared.groups.House.{House}
 use Rattle.inputs.specs.declared.groups.Age.{Age}
 use Rattle.inputs.specs.declared.groups.Ages.{Ages}
+use Rattle.inputs.specs.declared.kind.Inhalation.{Inhalation}
+use Rattle.inputs.specs.declared.kind.Inhalation.TheVariants.{Intake, Concentration}
 use Rattle.inputs.specs.declared.Scenario.{Scenario}
 use Rattle.inputs.specs.declared.groups.Toxicity.{Toxicity}
 use Rattle.inputs.specs.declared.groups.Transfer.{Transfer}
+use Rattle.inputs.specs.declared.groups.AirToxicity.{AirToxicity}
 use Rattle.inputs.specs.declared.Contaminant.{Contaminant}
 
 -- ---- the groups, of decimals or of the numbers that stand for them
@@ -38,24 +41,36 @@ toxicity_decimals x = x.sfo ∷ (x.sfi ∷ (x.sfx ∷ (x.rfdo ∷ (x.rfdi ∷ []
 abbrev pub transfer_decimals : {T : Type 0} → Transfer T → List T
 transfer_decimals x = x.vf ∷ (x.pc ∷ [])
 
+abbrev pub air_decimals : {T : Type 0} → AirToxicity T → List T
+air_decimals x = x.u ∷ (x.q ∷ [])
+
 -- ---- a scenario
 abbrev pub scenario_decimals : Scenario → List Decimal
 scenario_decimals s =
-    exposure_decimals s.exposure ++ (contact_decimals s.contact ++ (target_decimals s.targets ++ (house_decimals s.house ++ ages_decimals s.ages)))
+    exposure_decimals s.exposure ++ (contact_decimals s.contact ++ (target_decimals s.targets ++
+    (house_decimals s.house ++ (s.air_hours ∷ ages_decimals s.ages))))
 
--- ---- a contaminant: all of its decimals, and those that a formula names
+-- ---- a contaminant: all of its decimals
 abbrev pub contaminant_decimals : Contaminant → List Decimal
-contaminant_decimals r = toxicity_decimals r.toxicity ++ (transfer_decimals r.transfer ++ (r.c ∷ (r.saturation ∷ (r.abs ∷ []))))
+contaminant_decimals r = toxicity_decimals r.toxicity ++ (transfer_decimals r.transfer ++ (r.c ∷ (r.saturation ∷ (air_decimals r.in_air ++ (r.abs ∷ [])))))
 
-abbrev pub formula_decimals : Contaminant → List Decimal
-formula_decimals r = toxicity_decimals r.toxicity ++ (transfer_decimals r.transfer ++ (r.abs ∷ []))
+-- and those that a formula names, where U and Q count by concentration alone
+abbrev pub no_toxicity_in_air : AirToxicity Decimal
+no_toxicity_in_air = record { u = zero_of; q = zero_of }
+
+abbrev pub toxicity_in_air : Inhalation → Contaminant → AirToxicity Decimal
+toxicity_in_air Intake r = no_toxicity_in_air
+toxicity_in_air Concentration r = r.in_air
+
+abbrev pub formula_decimals : Inhalation → Contaminant → List Decimal
+formula_decimals i r = toxicity_decimals r.toxicity ++ (transfer_decimals r.transfer ++ (air_decimals (toxicity_in_air i r) ++ (r.abs ∷ [])))
 
 -- how many they are
 abbrev pub scenario_places : ℕ
-scenario_places = 29
+scenario_places = 30
 
 abbrev pub contaminant_places : ℕ
-contaminant_places = 10
+contaminant_places = 12
 
 -- ---- out of such a list
 abbrev nth : List Decimal → ℕ → Decimal
@@ -85,13 +100,18 @@ toxicity_of l = record { sfo = nth l 0; sfi = nth l 1; sfx = nth l 2; rfdo = nth
 unfoldable pub transfer_of : List Decimal → Transfer Decimal
 transfer_of l = record { vf = nth l 0; pc = nth l 1 }
 
-unfoldable pub scenario_of : List Decimal → Scenario
-scenario_of l = record {
+unfoldable pub air_of : List Decimal → AirToxicity Decimal
+air_of l = record { u = nth l 0; q = nth l 1 }
+
+unfoldable pub scenario_of : Inhalation → List Decimal → Scenario
+scenario_of i l = record {
   exposure = exposure_of l;
   contact = contact_of (drop 4 l);
   targets = targets_of (drop 10 l);
   house = house_of (drop 12 l);
-  ages = ages_of (drop 20 l);
+  air_hours = nth l 20;
+  ages = ages_of (drop 21 l);
+  inhalation = i;
 }
 
 unfoldable pub contaminant_of : ℕ → ℕ → List Decimal → Contaminant
@@ -102,5 +122,6 @@ contaminant_of class id l = record {
   transfer = transfer_of (drop 5 l);
   c = nth l 7;
   saturation = nth l 8;
-  abs = nth l 9;
+  in_air = air_of (drop 9 l);
+  abs = nth l 11;
 }

@@ -1,7 +1,7 @@
 // The decimals of a scenario and of a contaminant in groups, each a struct and an array. Zero means not known, or not part of this
 // scenario, in every decimal.
 ghost use Rattle.std.specs.Prelude.{◌≡◌};
-ghost use Rattle.inputs.specs.Inputs.{exposure_decimals, contact_decimals, target_decimals, house_decimals, ages_decimals, toxicity_decimals, transfer_decimals};
+ghost use Rattle.inputs.specs.Inputs.{exposure_decimals, contact_decimals, target_decimals, house_decimals, ages_decimals, toxicity_decimals, transfer_decimals, air_decimals};
 
 // How often and how long, and of whom: exposure frequency, days per year; exposure duration, years; body weight, kg;
 // averaging time, years.
@@ -79,6 +79,13 @@ pub struct Toxicity<T> {
 pub struct Transfer<T> {
     pub vf: T,
     pub pc: T,
+}
+
+// Toxicity by concentration in the air: unit risk, per µg/m³; reference concentration, mg/m³.
+#[derive(Clone, Copy)]
+pub struct AirToxicity<T> {
+    pub u: T,
+    pub q: T,
 }
 
 // Each group as an array, in the order of the block, and out of one.
@@ -229,5 +236,22 @@ impl<T: Copy> From<Transfer<T>> for [T; 2] {
 
     fn from(x: Transfer<T>) -> [T; 2] {
         [x.vf, x.pc]
+    }
+}
+
+impl<T: Copy> From<[T; 2]> for AirToxicity<T> {
+    ghost from_gives = { λ l x. air_decimals x ≡ l };
+
+    fn from(values: [T; 2]) -> AirToxicity<T> {
+        let [u, q] = values;
+        AirToxicity { u, q }
+    }
+}
+
+impl<T: Copy> From<AirToxicity<T>> for [T; 2] {
+    ghost from_gives = { λ x l. l ≡ air_decimals x };
+
+    fn from(x: AirToxicity<T>) -> [T; 2] {
+        [x.u, x.q]
     }
 }

@@ -1,6 +1,6 @@
-// The media and the classes of contaminants, and their numbers.
+// The media, the classes of contaminants and the ways to work out inhalation, and their numbers.
 ghost use Rattle.std.specs.Prelude.{◌≡◌};
-ghost use Rattle.inputs.specs.Kinds.{medium_number, class_number};
+ghost use Rattle.inputs.specs.Kinds.{medium_number, class_number, header_kind, is_header_kind, inhalation_of};
 ghost use Rattle.inputs.specs.Rules.{OneTo, most_medium, most_class};
 
 // The media: 1 soil, 2 water.
@@ -17,6 +17,11 @@ pub const TRITIUM: u32 = 3;
 
 pub const MOST_CLASS: u32 = TRITIUM;
 
+// The kinds of a header: 1 where inhalation is worked out by intake, 6 by concentration.
+const INTAKE: u32 = 1;
+
+const CONCENTRATION: u32 = 6;
+
 // What a header's medium stands for.
 #[derive(Clone, Copy)]
 pub enum Medium {
@@ -30,6 +35,14 @@ pub enum Class {
     Chemical,
     Radionuclide,
     Tritium,
+}
+
+// How inhalation of a chemical is worked out: by intake, over body weight (EPA's RAGS Part A), or by concentration, over
+// the hours in the air (RAGS Part F).
+#[derive(Clone, Copy)]
+pub enum Inhalation {
+    Intake,
+    Concentration,
 }
 
 impl Medium {
@@ -59,4 +72,33 @@ impl Class {
         }
         Class::Chemical
     }
+}
+
+impl Inhalation {
+    // What the kind of a header tells; any number but 6 stands for intake.
+    pub fn of(kind: u32) -> Inhalation
+        ensures { result ≡ inhalation_of kind }
+    {
+        if kind == CONCENTRATION {
+            return Inhalation::Concentration;
+        }
+        Inhalation::Intake
+    }
+
+    // The kind of its headers.
+    pub fn kind(self) -> u32
+        ensures { result ≡ header_kind self }
+    {
+        match self {
+            Inhalation::Intake => INTAKE,
+            Inhalation::Concentration => CONCENTRATION,
+        }
+    }
+}
+
+// Whether it is the kind of a header.
+pub fn is_header_kind(kind: u32) -> bool
+    ensures { result ≡ is_header_kind kind }
+{
+    (kind == INTAKE) | (kind == CONCENTRATION)
 }

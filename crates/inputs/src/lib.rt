@@ -13,8 +13,8 @@ ghost use Rattle.inputs.specs.Valid.{valid_of, all_valid};
 
 use decimal::Decimal;
 pub use earlier::Earlier;
-pub use groups::{Age, Ages, Contact, Exposure, House, Targets, Toxicity, Transfer};
-pub use kind::{CHEMICAL, Class, Medium, SOIL};
+pub use groups::{Age, Ages, AirToxicity, Contact, Exposure, House, Targets, Toxicity, Transfer};
+pub use kind::{CHEMICAL, Class, Inhalation, Medium, SOIL, is_header_kind};
 use kind::{MOST_CLASS, MOST_MEDIUM, TRITIUM};
 use outcome::{Refusal, Refused};
 use rounding::BIAS;
@@ -53,18 +53,21 @@ const LEAST: u64 = BIAS - 20;
 
 const GREATEST: u64 = BIAS + 20;
 
-// A land-use scenario.
+// A land-use scenario; air_hours is A, the hours of a day in the air.
 #[derive(Clone, Copy)]
 pub struct Scenario {
     pub exposure: Exposure<Decimal>,
     pub contact: Contact<Decimal>,
     pub targets: Targets<Decimal>,
     pub house: House<Decimal>,
+    pub air_hours: Decimal,
     pub ages: Ages<Decimal>,
+    pub inhalation: Inhalation,
 }
 
 // A contaminant: its class (1 chemical, 2 radionuclide, 3 tritium), its id, its measured concentration C, the saturation of
-// soil with it, mg/kg, and ABS, the fraction that skin absorbs of what soil holds of it.
+// soil with it, mg/kg, its toxicity by concentration in the air, and ABS, the fraction that skin absorbs of what soil holds
+// of it.
 #[derive(Clone, Copy)]
 pub struct Contaminant {
     pub class: u32,
@@ -73,6 +76,7 @@ pub struct Contaminant {
     pub transfer: Transfer<Decimal>,
     pub c: Decimal,
     pub saturation: Decimal,
+    pub in_air: AirToxicity<Decimal>,
     pub abs: Decimal,
 }
 
@@ -98,7 +102,9 @@ impl Scenario {
             thi: Decimal { m: 1, e: 0 },
         },
         house: NO_HOUSE,
+        air_hours: Decimal::ZERO,
         ages: NO_AGES,
+        inhalation: Inhalation::Intake,
     };
 
     // Archeologist (source 004).
@@ -122,7 +128,9 @@ impl Scenario {
             thi: Decimal { m: 1, e: 0 },
         },
         house: NO_HOUSE,
+        air_hours: Decimal::ZERO,
         ages: NO_AGES,
+        inhalation: Inhalation::Intake,
     };
 
     // Bird watcher (source 004).
@@ -146,10 +154,12 @@ impl Scenario {
             thi: Decimal { m: 1, e: 0 },
         },
         house: NO_HOUSE,
+        air_hours: Decimal::ZERO,
         ages: NO_AGES,
+        inhalation: Inhalation::Intake,
     };
 
-    // The scenario with every decimal zero.
+    // The scenario with every decimal zero, inhalation by intake.
     pub const BLANK: Scenario = Scenario {
         exposure: Exposure {
             ef: Decimal::ZERO,
@@ -170,7 +180,9 @@ impl Scenario {
             thi: Decimal::ZERO,
         },
         house: NO_HOUSE,
+        air_hours: Decimal::ZERO,
         ages: NO_AGES,
+        inhalation: Inhalation::Intake,
     };
 
     // The built-in scenario of a number from 1 to 3; refusal 11 in block 0 for any other number.
@@ -205,6 +217,10 @@ impl Contaminant {
         },
         c: Decimal::ZERO,
         saturation: Decimal::ZERO,
+        in_air: AirToxicity {
+            u: Decimal::ZERO,
+            q: Decimal::ZERO,
+        },
         abs: Decimal::ZERO,
     };
 }
@@ -251,8 +267,9 @@ pub fn valid_scenario(s: Scenario) -> bool
     let contact = all_valid(s.contact.into());
     let targets = all_valid(s.targets.into());
     let house = all_valid(s.house.into());
+    let air_hours = valid(s.air_hours);
     let ages = all_valid(s.ages.into());
-    exposure & contact & targets & house & ages
+    exposure & contact & targets & house & air_hours & ages
 }
 
 // Whether the decimals of a contaminant keep their rule.
@@ -263,8 +280,10 @@ pub fn valid_contaminant(r: Contaminant) -> bool
     let transfer = all_valid(r.transfer.into());
     let c = valid(r.c);
     let saturation = zero_or_valid(r.saturation);
+    let u = zero_or_valid(r.in_air.u);
+    let q = zero_or_valid(r.in_air.q);
     let abs = zero_or_valid(r.abs);
-    toxicity & transfer & c & saturation & abs
+    toxicity & transfer & c & saturation & u & q & abs
 }
 
 // Whether a number is from 1 to so many: a medium, or a class.
