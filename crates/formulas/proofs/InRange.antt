@@ -97,8 +97,8 @@ steps_in_range dir s medium r side v =
     let qs = exact_for s r in
     let fs = formulas_for s medium r side in
     let reps = values_stand dir l v in
-    let three = three_pathways medium r.class side in
+    let three = three_pathways s.inhalation medium r.class side in
     operands_append (flat_map (total_steps (plain_values l) dir) derived) (vs ++ total_steps vs dir fs)
     (derived_ranged dir (plain_values l) (exact_plain l) (plain_stand dir l v) derived derived_every)
     (operands_append vs (total_steps vs dir fs) (values_ranged dir vs qs reps)
-    (total_ranged dir vs qs reps {k = formula_roundings} {w = formula_range} (covers refl) fs (table_sound medium r.class side) (record { low = lit≤ tt; high = omega (arith, three) })))
+    (total_ranged dir vs qs reps {k = formula_roundings} {w = formula_range} (covers refl) fs (table_sound s.inhalation medium r.class side) (record { low = lit≤ tt; high = omega (arith, three) })))

@@ -12,6 +12,8 @@ use Rattle.formulas.specs.Limits.{input_range, part_roundings, part_range, worke
 use Rattle.decimal.specs.Range.{Range, ends, operand_range, quotient_range, product_range, joined_range, Covers, covers_test}
 use Rattle.decimal.proofs.Ranges.{covers}
 use Rattle.inputs.proofs.Tests.{and_split}
+use Rattle.inputs.specs.declared.kind.Inhalation.{Inhalation}
+use Rattle.inputs.specs.declared.kind.Inhalation.TheVariants.{Intake, Concentration}
 use Rattle.inputs.specs.Rules.{most_class}
 use Rattle.formulas.specs.Side.{Side, Risk, Hazard}
 use Rattle.formulas.specs.Formula.{Formula, Row, table, formulas_of, is_row, row_of, pathways_of, no_pathways, derived, derived_places, none}
@@ -129,21 +131,27 @@ rows_good (x ∷ xs) t medium class side =
     let both = and_split (row_sound x && row_three x) (rows_sound xs) t in
     one_of (is_row x medium class) (side_good x both.0 side) (rows_good xs both.1 medium class side)
 
-table_good : (medium class : ℕ) (side : Side) → RowGood (pathways_of medium class side)
-unfolding pathways_of table
-table_good medium class side = rows_good table refl medium class side
+-- by intake and by concentration
+table_passes : (i : Inhalation) → rows_sound (table i) ≡ true
+unfolding table
+table_passes Intake = refl
+table_passes Concentration = refl
+
+table_good : (i : Inhalation) (medium class : ℕ) (side : Side) → RowGood (pathways_of i medium class side)
+unfolding pathways_of
+table_good i medium class side = rows_good (table i) (table_passes i) medium class side
 
 -- every medium, class and side has three rows, each within the limits of a formula
-pub table_sound : (medium class : ℕ) (side : Side) → Sounds formula_roundings formula_range (pathways_of medium class side)
-table_sound medium class side = (table_good medium class side).sound
+pub table_sound : (i : Inhalation) (medium class : ℕ) (side : Side) → Sounds formula_roundings formula_range (pathways_of i medium class side)
+table_sound i medium class side = (table_good i medium class side).sound
 
-pub three_pathways : (medium class : ℕ) (side : Side) → length (pathways_of medium class side) ≡ 3
-three_pathways medium class side = (table_good medium class side).three
+pub three_pathways : (i : Inhalation) (medium class : ℕ) (side : Side) → length (pathways_of i medium class side) ≡ 3
+three_pathways i medium class side = (table_good i medium class side).three
 
 -- a class that has no row has no pathway: no other class can stand for it
-pub other_class : (medium class : ℕ) (side : Side) → most_class < class → pathways_of medium class side ≡ no_pathways
+pub other_class : (i : Inhalation) (medium class : ℕ) (side : Side) → most_class < class → pathways_of i medium class side ≡ no_pathways
 unfolding pathways_of table
-other_class medium class side h =
+other_class i medium class side h =
     let one = ne_eqb 1 class (λ e. omega (arith, h, e)) in
     let two = ne_eqb 2 class (λ e. omega (arith, h, e)) in
     let three = ne_eqb 3 class (λ e. omega (arith, h, e)) in
@@ -158,18 +166,19 @@ abbrev distinct : List Row → Bool
 distinct [] = true
 distinct (x ∷ xs) = not (named xs x.medium x.class) && distinct xs
 
-pub table_distinct : distinct table ≡ true
+pub table_distinct : (i : Inhalation) → distinct (table i) ≡ true
 unfolding table
-table_distinct = refl
+table_distinct i = refl
 
 -- every class has a row of its own in each medium, but tritium in soil, which has no pathway
-pub table_whole : named table 1 1 && (named table 1 2 && (named table 2 1 && (named table 2 2 && named table 2 3))) ≡ true
+pub table_whole : (i : Inhalation) →
+    named (table i) 1 1 && (named (table i) 1 2 && (named (table i) 2 1 && (named (table i) 2 2 && named (table i) 2 3))) ≡ true
 unfolding table
-table_whole = refl
+table_whole i = refl
 
-pub tritium_in_soil : (side : Side) → pathways_of 1 3 side ≡ no_pathways
+pub tritium_in_soil : (i : Inhalation) (side : Side) → pathways_of i 1 3 side ≡ no_pathways
 unfolding pathways_of table
-tritium_in_soil side = refl
+tritium_in_soil i side = refl
 
 -- ---- the factors that are worked out: each the sum of at most two parts within their limits
 pub data Every (k : ℕ) (w : Range) : List (List Formula) → Type 0 where

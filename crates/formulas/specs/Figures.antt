@@ -6,8 +6,10 @@ use Rattle.rounding.specs.declared.Direction.TheVariants.{Down, Up}
 use Rattle.decimal.specs.declared.Decimal.{Decimal}
 use Rattle.decimal.specs.Decimal.{zero_of}
 use Rattle.decimal.specs.Figures.{Figure, dec, ◌is◌}
+use Rattle.inputs.specs.declared.kind.Inhalation.TheVariants.{Intake}
 use Rattle.inputs.specs.declared.Scenario.{Scenario}
 use Rattle.inputs.specs.declared.Contaminant.{Contaminant}
+use Rattle.inputs.specs.Inputs.{no_toxicity_in_air}
 use Rattle.inputs.specs.BuiltIn.{office, no_ages}
 use Rattle.formulas.specs.Side.{Side, Risk, Hazard}
 use Rattle.formulas.specs.Formula.{H, G, none}
@@ -29,7 +31,9 @@ resident_with et n = record {
     w = dec 272 (pos 0);
     k = dec 15 (negsuc 5);
   };
+  air_hours = zero_of;
   ages = no_ages;
+  inhalation = Intake;
 }
 
 abbrev pub resident : Scenario
@@ -43,6 +47,7 @@ tritium = record {
   transfer = record { vf = zero_of; pc = zero_of };
   c = dec 500 (pos 0);
   saturation = zero_of;
+  in_air = no_toxicity_in_air;
   abs = zero_of;
 }
 
@@ -64,11 +69,13 @@ office_with child adult = record {
   contact = office.contact;
   targets = office.targets;
   house = office.house;
+  air_hours = office.air_hours;
   ages = record {
     child = record { sa = dec 2000 (pos 0); ef = dec 350 (pos 0); ed = dec 6 (pos 0); bw = child };
     adult = record { sa = dec 5000 (pos 0); ef = dec 350 (pos 0); ed = dec 24 (pos 0); bw = adult };
     af = dec 2 (negsuc 0);
   };
+  inhalation = office.inhalation;
 }
 
 -- a chemical with SFo 1, RfDo 0.02, a concentration and ABS, all else zero
@@ -80,6 +87,7 @@ sample_of c abs = record {
   transfer = record { vf = zero_of; pc = zero_of };
   c = c;
   saturation = zero_of;
+  in_air = no_toxicity_in_air;
   abs = abs;
 }
 

@@ -1,5 +1,7 @@
 -- The formulas (docs/SPECIFICATION.md, "Terms") as a table: a formula is the list of the factors before the stroke and of those after it.
 use Rattle.std.specs.Prelude.{Bool, cond, ◌&&◌, List, [], ◌∷◌, ℕ, ◌+◌, eqb}
+use Rattle.inputs.specs.declared.kind.Inhalation.{Inhalation}
+use Rattle.inputs.specs.declared.kind.Inhalation.TheVariants.{Intake, Concentration}
 use Rattle.inputs.specs.Inputs.{scenario_places}
 use Rattle.formulas.specs.Side.{Side, Risk, Hazard}
 
@@ -16,7 +18,7 @@ G = 2
 abbrev pub derived_places : ℕ
 derived_places = 3
 
--- constants: 1, 10^-6, 10^-3, 0.5, 0.000114, 365 and 10^3
+-- constants: 1, 10^-6, 10^-3, 0.5, 0.000114, 365, 10^3 and 24
 abbrev pub One : ℕ
 One = derived_places
 
@@ -38,8 +40,11 @@ Days = derived_places + 5
 abbrev pub Thousand : ℕ
 Thousand = derived_places + 6
 
+abbrev pub HoursPerDay : ℕ
+HoursPerDay = derived_places + 7
+
 abbrev scenario_first : ℕ
-scenario_first = derived_places + 7
+scenario_first = derived_places + 8
 
 -- of the scenario, in the order of `scenario_decimals`
 abbrev pub EF : ℕ
@@ -97,33 +102,37 @@ W = scenario_first + 18
 abbrev pub K : ℕ
 K = scenario_first + 19
 
+-- the hours of a day in the air
+abbrev pub A : ℕ
+A = scenario_first + 20
+
 -- soil on skin: of the child, of the adult, and the adherence
 abbrev pub ChildSA : ℕ
-ChildSA = scenario_first + 20
+ChildSA = scenario_first + 21
 
 abbrev pub ChildEF : ℕ
-ChildEF = scenario_first + 21
+ChildEF = scenario_first + 22
 
 abbrev pub ChildED : ℕ
-ChildED = scenario_first + 22
+ChildED = scenario_first + 23
 
 abbrev pub ChildBW : ℕ
-ChildBW = scenario_first + 23
+ChildBW = scenario_first + 24
 
 abbrev pub AdultSA : ℕ
-AdultSA = scenario_first + 24
+AdultSA = scenario_first + 25
 
 abbrev pub AdultEF : ℕ
-AdultEF = scenario_first + 25
+AdultEF = scenario_first + 26
 
 abbrev pub AdultED : ℕ
-AdultED = scenario_first + 26
+AdultED = scenario_first + 27
 
 abbrev pub AdultBW : ℕ
-AdultBW = scenario_first + 27
+AdultBW = scenario_first + 28
 
 abbrev pub AF : ℕ
-AF = scenario_first + 28
+AF = scenario_first + 29
 
 abbrev contaminant_first : ℕ
 contaminant_first = scenario_first + scenario_places
@@ -150,8 +159,14 @@ VF = contaminant_first + 5
 abbrev pub PC : ℕ
 PC = contaminant_first + 6
 
+abbrev pub U : ℕ
+U = contaminant_first + 7
+
+abbrev pub Q : ℕ
+Q = contaminant_first + 8
+
 abbrev pub ABS : ℕ
-ABS = contaminant_first + 7
+ABS = contaminant_first + 9
 
 pub record Formula : Type 0 where
   pub before : List ℕ
@@ -168,26 +183,36 @@ none = [] ÷ []
 abbrev pub no_pathways : List Formula
 no_pathways = none ∷ none ∷ none ∷ []
 
--- ---- the table: for a medium (1 soil, 2 water) and a class (1 chemical, 2 radionuclide, 3 tritium) the three pathways of each side
+-- ---- inhalation of a chemical, by intake or by concentration, where the air holds this share of it: B in soil, 0.5 in water
+abbrev pub inhaled_risk : Inhalation → ℕ → Formula
+inhaled_risk Intake share = (SFi ∷ IRA ∷ share ∷ EF ∷ ED ∷ []) ÷ (BW ∷ AT ∷ Days ∷ [])
+inhaled_risk Concentration share = (U ∷ Thousand ∷ share ∷ A ∷ EF ∷ ED ∷ []) ÷ (AT ∷ Days ∷ HoursPerDay ∷ [])
+
+abbrev pub inhaled_hazard : Inhalation → ℕ → Formula
+inhaled_hazard Intake share = (IRA ∷ share ∷ EF ∷ []) ÷ (RfDi ∷ BW ∷ Days ∷ [])
+inhaled_hazard Concentration share = (share ∷ A ∷ EF ∷ []) ÷ (Q ∷ Days ∷ HoursPerDay ∷ [])
+
+-- ---- the table: for a medium (1 soil, 2 water) and a class (1 chemical, 2 radionuclide, 3 tritium) the three pathways of each side, with
+-- inhalation of chemicals worked out so
 pub record Row : Type 0 where
   pub medium : ℕ
   pub class : ℕ
   pub risk : List Formula
   pub hazard : List Formula
 
-unfoldable pub table : List Row
-table =
+unfoldable pub table : Inhalation → List Row
+table i =
     -- soil, chemical
     record {
       medium = 1;
       class = 1;
       risk =
           ((SFo ∷ IR ∷ Millionth ∷ EF ∷ ED ∷ []) ÷ (BW ∷ AT ∷ Days ∷ [])) ∷
-          ((SFi ∷ IRA ∷ B ∷ EF ∷ ED ∷ []) ÷ (BW ∷ AT ∷ Days ∷ [])) ∷
+          inhaled_risk i B ∷
           ((SFo ∷ ABS ∷ AF ∷ Millionth ∷ G ∷ []) ÷ (AT ∷ Days ∷ [])) ∷ [];
       hazard =
           ((IR ∷ Millionth ∷ EF ∷ []) ÷ (RfDo ∷ BW ∷ Days ∷ [])) ∷
-          ((IRA ∷ B ∷ EF ∷ []) ÷ (RfDi ∷ BW ∷ Days ∷ [])) ∷
+          inhaled_hazard i B ∷
           ((ABS ∷ AF ∷ Millionth ∷ G ∷ []) ÷ (RfDo ∷ ED ∷ Days ∷ [])) ∷ [];
     } ∷
     -- soil, radionuclide
@@ -206,11 +231,11 @@ table =
       class = 1;
       risk =
           ((SFo ∷ IR ∷ EF ∷ ED ∷ []) ÷ (BW ∷ AT ∷ Days ∷ [])) ∷
-          ((SFi ∷ IRA ∷ Half ∷ EF ∷ ED ∷ []) ÷ (BW ∷ AT ∷ Days ∷ [])) ∷
+          inhaled_risk i Half ∷
           ((SFo ∷ SA ∷ PC ∷ ET ∷ Thousandth ∷ EF ∷ ED ∷ []) ÷ (BW ∷ AT ∷ Days ∷ [])) ∷ [];
       hazard =
           ((IR ∷ EF ∷ []) ÷ (RfDo ∷ BW ∷ Days ∷ [])) ∷
-          ((IRA ∷ Half ∷ EF ∷ []) ÷ (RfDi ∷ BW ∷ Days ∷ [])) ∷
+          inhaled_hazard i Half ∷
           ((SA ∷ PC ∷ ET ∷ Thousandth ∷ EF ∷ []) ÷ (RfDo ∷ BW ∷ Days ∷ [])) ∷ [];
     } ∷
     -- water, radionuclide
@@ -243,8 +268,8 @@ abbrev pub row_of : List Row → ℕ → ℕ → Side → List Formula
 row_of [] medium class side = no_pathways
 row_of (x ∷ xs) medium class side = cond (is_row x medium class) (formulas_of x side) (row_of xs medium class side)
 
-unfoldable pub pathways_of : ℕ → ℕ → Side → List Formula
-pathways_of medium class side = row_of table medium class side
+unfoldable pub pathways_of : Inhalation → ℕ → ℕ → Side → List Formula
+pathways_of i medium class side = row_of (table i) medium class side
 
 -- ---- the factors that are worked out, each as the formulas that are added up: B = 1/VF + 1/PEF, H = ET + (F, N, S, V / L, W),
 -- and G = (SA, EF, ED / BW) of the child + the same of the adult

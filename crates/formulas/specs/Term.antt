@@ -44,14 +44,14 @@ unfoldable pub total_of : List Decimal → Direction → List Formula → Decima
 total_of vs dir fs = summed dir zero_of (map (term_of vs dir) fs)
 
 -- ---- the values that the names stand for
--- 1, 10^-6, 10^-3, 0.5, 0.000114, 365, 10^3
+-- 1, 10^-6, 10^-3, 0.5, 0.000114, 365, 10^3, 24
 abbrev pub constants : List Decimal
 constants =
     record { m = 1; e = pos 0 } ∷ (record { m = 1; e = negsuc 5 } ∷ (record { m = 1; e = negsuc 2 } ∷ (record { m = 5; e = negsuc 0 } ∷
-    (record { m = 114; e = negsuc 5 } ∷ (record { m = 365; e = pos 0 } ∷ (record { m = 1; e = pos 3 } ∷ []))))))
+    (record { m = 114; e = negsuc 5 } ∷ (record { m = 365; e = pos 0 } ∷ (record { m = 1; e = pos 3 } ∷ (record { m = 24; e = pos 0 } ∷ [])))))))
 
 abbrev pub inputs_of : Scenario → Contaminant → List Decimal
-inputs_of s r = constants ++ (scenario_decimals s ++ formula_decimals r)
+inputs_of s r = constants ++ (scenario_decimals s ++ formula_decimals s.inhalation r)
 
 -- the working forms of the inputs behind a list of values for the factors that are worked out
 abbrev pub values_from : List Decimal → List Decimal → List Decimal
@@ -66,7 +66,7 @@ values_of dir l = values_from (map (total_of (plain_values l) dir) derived) l
 
 -- ---- what is cited above: the formulas of a record in a scenario and a medium, and the values of their names
 abbrev pub formulas_for : Scenario → ℕ → Contaminant → Side → List Formula
-formulas_for s medium r side = pathways_of medium r.class side
+formulas_for s medium r side = pathways_of s.inhalation medium r.class side
 
 abbrev pub values_for : Direction → Scenario → Contaminant → List Decimal
 values_for dir s r = values_of dir (inputs_of s r)
