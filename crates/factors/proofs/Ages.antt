@@ -40,10 +40,10 @@ module _ (dir : Direction) {x : Age Number} (inputs : Inputs (age_decimals x)) w
 -- ---- both
 module _ (dir : Direction) {f : Factors} (ready : ReadyFactors f) where
   pub child_inputs : Inputs (age_decimals f.ages.child)
-  child_inputs = next (stands_at ready 20) (next (stands_at ready 21) (next (stands_at ready 22) (next (stands_at ready 23) end)))
+  child_inputs = next (stands_at ready 21) (next (stands_at ready 22) (next (stands_at ready 23) (next (stands_at ready 24) end)))
 
   pub adult_inputs : Inputs (age_decimals f.ages.adult)
-  adult_inputs = next (stands_at ready 24) (next (stands_at ready 25) (next (stands_at ready 26) (next (stands_at ready 27) end)))
+  adult_inputs = next (stands_at ready 25) (next (stands_at ready 26) (next (stands_at ready 27) (next (stands_at ready 28) end)))
 
   pub ages_stand : {a b g : Number} → Stands age_width a (one_age dir f.ages.child) → Stands age_width b (one_age dir f.ages.adult) → g ≡ sum_of dir a b →
       Stands ages_width g (both_ages dir f)

@@ -29,7 +29,11 @@ use Rattle.decimal.proofs.OperandFacts.{Operand}
 use Rattle.decimal.proofs.Laws.{decimal_zero, working_is, nine_working}
 use Rattle.decimal.proofs.CoreOperations.{mul_core, div_core, add_core}
 use Rattle.decimal.proofs.Approximation.{Sized, sized_of, fair_zero, working_fair, given_zero}
+use Rattle.inputs.specs.declared.kind.Inhalation.{Inhalation}
+use Rattle.inputs.specs.declared.kind.Inhalation.TheVariants.{Intake}
 use Rattle.inputs.specs.declared.Scenario.{Scenario}
+use Rattle.inputs.specs.declared.Contaminant.{Contaminant}
+use Rattle.inputs.specs.Inputs.{air_decimals, toxicity_in_air}
 use Rattle.inputs.specs.Valid.{valid_of, all_valid}
 use Rattle.inputs.proofs.Tests.{and_split, valid_small}
 use Rattle.factors.specs.declared.numbers.Factors.{Factors}
@@ -173,6 +177,13 @@ valid_turn ds (x ∷ xs) t u d v y e = valid_turn y.0 xs t u d (and_split (valid
 -- the numbers m of the decimals d, where both went through arrays
 pub stands_same : {ms ns : List Number} {es ds : List Decimal} → es ≡ ds → StandAll ns (map working_of es) → ms ≡ ns → StandAll ms (map working_of ds)
 stands_same d s m = subst₂ (λ (ns : List Number) (ds : List Decimal). StandAll ns (map working_of ds)) (sym m) d s
+
+-- of U and Q, which count for nothing where inhalation is worked out by intake
+pub no_air_stands : {i : Inhalation} (r : Contaminant) → i ≡ Intake → StandAll (no_number ∷ no_number ∷ []) (map working_of (air_decimals (toxicity_in_air i r)))
+unfolding valid_of
+no_air_stands r e =
+    let zero = zero_number_stands zero_of refl refl in
+    subst (λ (i : Inhalation). StandAll (no_number ∷ no_number ∷ []) (map working_of (air_decimals (toxicity_in_air i r)))) (sym e) (next zero (next zero end))
 
 pub all_own : {ns : List Number} {ds : List Decimal} → StandAll ns ds → Inputs ns
 all_own end = end

@@ -8,7 +8,9 @@ use Rattle.decimal.specs.declared.Decimal.{Decimal}
 use Rattle.decimal.specs.Decimal.{decimal_of, working_of}
 use Rattle.inputs.specs.declared.Scenario.{Scenario}
 use Rattle.inputs.specs.declared.Contaminant.{Contaminant}
-use Rattle.inputs.specs.Inputs.{exposure_decimals, contact_decimals, target_decimals, house_decimals, ages_decimals, toxicity_decimals, transfer_decimals, scenario_decimals, formula_decimals}
+use Rattle.inputs.specs.declared.kind.Inhalation.{Inhalation}
+use Rattle.inputs.specs.Inputs.{exposure_decimals, contact_decimals, target_decimals, house_decimals, ages_decimals, toxicity_decimals, transfer_decimals, air_decimals}
+use Rattle.inputs.specs.Inputs.{scenario_decimals, formula_decimals}
 use Rattle.factors.specs.declared.numbers.Factors.{Factors}
 use Rattle.factors.specs.declared.numbers.ContaminantNumbers.{ContaminantNumbers}
 
@@ -32,17 +34,18 @@ pub data StandAll : List Number → List Decimal → Type 0 where
 -- ---- the numbers as a list, in the order of their decimals
 abbrev pub factor_numbers : Factors → List Number
 factor_numbers f =
-    exposure_decimals f.exposure ++ (contact_decimals f.contact ++ (target_decimals f.targets ++ (house_decimals f.house ++ ages_decimals f.ages)))
+    exposure_decimals f.exposure ++ (contact_decimals f.contact ++ (target_decimals f.targets ++
+    (house_decimals f.house ++ (f.air_hours ∷ ages_decimals f.ages))))
 
 abbrev pub contaminant_numbers : ContaminantNumbers → List Number
-contaminant_numbers t = toxicity_decimals t.toxicity ++ (transfer_decimals t.transfer ++ (t.abs ∷ []))
+contaminant_numbers t = toxicity_decimals t.toxicity ++ (transfer_decimals t.transfer ++ (air_decimals t.in_air ++ (t.abs ∷ [])))
 
 -- ---- the numbers of an input's decimals
 abbrev pub FactorsFor : Scenario → Factors → Type 0
 FactorsFor s f = StandAll (factor_numbers f) (map working_of (scenario_decimals s))
 
-abbrev pub NumbersFor : Contaminant → ContaminantNumbers → Type 0
-NumbersFor r t = StandAll (contaminant_numbers t) (map working_of (formula_decimals r))
+abbrev pub NumbersFor : Inhalation → Contaminant → ContaminantNumbers → Type 0
+NumbersFor i r t = StandAll (contaminant_numbers t) (map working_of (formula_decimals i r))
 
 -- ---- numbers that stand for working decimals of inputs
 abbrev pub Inputs : List Number → Type 0
