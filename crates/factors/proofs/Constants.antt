@@ -46,3 +46,7 @@ thousand_stands = record { is = refl; working = inr (record { least = lit≤ tt;
 pub days_stands : Stands input_width (num 365000000 2994) (working_of (dec 365 (pos 0)))
 unfolding working_of nine_of
 days_stands = record { is = refl; working = inr (record { least = lit≤ tt; most = lit< tt }); most = lit< tt; low = lit≤ tt; high = lit≤ tt }
+
+pub hours_per_day_stands : Stands input_width (num 240000000 2993) (working_of (dec 24 (pos 0)))
+unfolding working_of nine_of
+hours_per_day_stands = record { is = refl; working = inr (record { least = lit≤ tt; most = lit< tt }); most = lit< tt; low = lit≤ tt; high = lit≤ tt }

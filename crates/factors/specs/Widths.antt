@@ -14,6 +14,14 @@ two_width = input_width + input_width + 1
 abbrev pub three_width : ℕ
 three_width = two_width + input_width + 1
 
+-- what leads from soil or water to the air: B, the sum of two quotients, or 0.5
+abbrev pub air_width : ℕ
+air_width = two_width + 1
+
+-- and its product with two inputs
+abbrev pub intake_width : ℕ
+intake_width = air_width + input_width + input_width + 2
+
 -- H: its second part, a product of four over a product of two, and the sum of both parts
 abbrev pub four_width : ℕ
 four_width = three_width + input_width + 1

@@ -183,14 +183,14 @@ none = [] ÷ []
 abbrev pub no_pathways : List Formula
 no_pathways = none ∷ none ∷ none ∷ []
 
--- ---- inhalation of a chemical, by intake or by concentration, where the air holds this share of it: B in soil, 0.5 in water
+-- ---- inhalation of a chemical, by intake or by concentration, with the factor from soil or water to the air: B in soil, 0.5 in water
 abbrev pub inhaled_risk : Inhalation → ℕ → Formula
-inhaled_risk Intake share = (SFi ∷ IRA ∷ share ∷ EF ∷ ED ∷ []) ÷ (BW ∷ AT ∷ Days ∷ [])
-inhaled_risk Concentration share = (U ∷ Thousand ∷ share ∷ A ∷ EF ∷ ED ∷ []) ÷ (AT ∷ Days ∷ HoursPerDay ∷ [])
+inhaled_risk Intake air = (SFi ∷ IRA ∷ air ∷ EF ∷ ED ∷ []) ÷ (BW ∷ AT ∷ Days ∷ [])
+inhaled_risk Concentration air = (U ∷ Thousand ∷ air ∷ A ∷ EF ∷ ED ∷ []) ÷ (AT ∷ Days ∷ HoursPerDay ∷ [])
 
 abbrev pub inhaled_hazard : Inhalation → ℕ → Formula
-inhaled_hazard Intake share = (IRA ∷ share ∷ EF ∷ []) ÷ (RfDi ∷ BW ∷ Days ∷ [])
-inhaled_hazard Concentration share = (share ∷ A ∷ EF ∷ []) ÷ (Q ∷ Days ∷ HoursPerDay ∷ [])
+inhaled_hazard Intake air = (IRA ∷ air ∷ EF ∷ []) ÷ (RfDi ∷ BW ∷ Days ∷ [])
+inhaled_hazard Concentration air = (air ∷ A ∷ EF ∷ []) ÷ (Q ∷ Days ∷ HoursPerDay ∷ [])
 
 -- ---- the table: for a medium (1 soil, 2 water) and a class (1 chemical, 2 radionuclide, 3 tritium) the three pathways of each side, with
 -- inhalation of chemicals worked out so

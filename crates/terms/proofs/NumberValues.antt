@@ -16,14 +16,13 @@ use Rattle.factors.specs.declared.numbers.Factors.{Factors}
 use Rattle.factors.specs.declared.numbers.ContaminantNumbers.{ContaminantNumbers}
 use Rattle.factors.specs.declared.prepared.Prepared.{Prepared}
 use Rattle.terms.specs.declared.pathways.PathwayTerms.{PathwayTerms}
-use Rattle.factors.specs.Widths.{input_width, formula_width, two_width, hours_width, ages_width}
+use Rattle.factors.specs.Widths.{input_width, formula_width, two_width, air_width, hours_width, ages_width}
 use Rattle.inputs.specs.declared.kind.Medium.TheVariants.{Soil, Water}
 use Rattle.inputs.specs.Kinds.{medium_number}
 use Rattle.decimal.specs.Range.{ends}
 use Rattle.factors.proofs.Hours.{shower_value, hours_value}
 use Rattle.factors.proofs.Ages.{child_value, adult_value, ages_value}
-use Rattle.formulas.specs.Side.{Side}
-use Rattle.formulas.specs.Formula.{Formula, ◌÷◌, none, B, H, G, One, ET, F, N, S, Vol, L, W, VF, PEF, no_pathways, pathways_of, derived, derived_places}
+use Rattle.formulas.specs.Formula.{Formula, ◌÷◌, none, B, H, G, One, ET, F, N, S, Vol, L, W, VF, PEF, no_pathways, derived, derived_places}
 use Rattle.formulas.specs.Formula.{ChildSA, ChildEF, ChildED, ChildBW, AdultSA, AdultEF, AdultED, AdultBW}
 use Rattle.formulas.specs.Term.{look, constants, present_of, evaluated, term_of, total_of}
 use Rattle.factors.specs.Stands.{Stands, StandAll, factor_numbers, contaminant_numbers}
@@ -32,15 +31,15 @@ use Rattle.factors.specs.Prepared.{Middle, unit, shower_of, hours_of, one_age, b
 use Rattle.terms.specs.Side.{number_inputs, number_values, Ready, SideFor, no_side}
 use Rattle.decimal.proofs.Value.{Value, skip_first, skip_next, value_zero}
 use Rattle.factors.proofs.StandsLaws.{no_number, zero_stands, stands_at, stands_join, stands_operand, stands_middle, stands_value, stands_most, stands_is, stands_div, stands_add, stands_mul3}
-use Rattle.factors.proofs.Constants.{num, unit_stands, millionth_stands, thousandth_stands, half_stands, years_per_hour_stands, days_stands, thousand_stands}
+use Rattle.factors.proofs.Constants.{num, unit_stands, millionth_stands, thousandth_stands, half_stands, years_per_hour_stands, days_stands, thousand_stands, hours_per_day_stands}
 use Rattle.formulas.proofs.Presence.{ZeroByDigits, term_evaluated, absent_term}
 
 -- ---- the code's numbers in the order of the table's names, from the first constant
 abbrev constant_numbers : List Number
-constant_numbers = num 100000000 2992 ∷ (num 100000000 2986 ∷ (num 100000000 2989 ∷ (num 500000000 2991 ∷ (num 114000000 2988 ∷ (num 365000000 2994 ∷ (num 100000000 2995 ∷ []))))))
+constant_numbers = num 100000000 2992 ∷ (num 100000000 2986 ∷ (num 100000000 2989 ∷ (num 500000000 2991 ∷ (num 114000000 2988 ∷ (num 365000000 2994 ∷ (num 100000000 2995 ∷ (num 240000000 2993 ∷ [])))))))
 
 constants_stand : StandAll constant_numbers (map working_of constants)
-constants_stand = next unit_stands (next millionth_stands (next thousandth_stands (next half_stands (next years_per_hour_stands (next days_stands (next thousand_stands end))))))
+constants_stand = next unit_stands (next millionth_stands (next thousandth_stands (next half_stands (next years_per_hour_stands (next days_stands (next thousand_stands (next hours_per_day_stands end)))))))
 
 abbrev pub numbers : Factors → ContaminantNumbers → List Number
 numbers f t = constant_numbers ++ (factor_numbers f ++ contaminant_numbers t)
@@ -116,7 +115,7 @@ module _ {dir : Direction} {m : ℕ} {f : Factors} {p : Prepared} {t : Contamina
   unfolding number_values derived plain
   added = two_parts ((One ∷ []) ÷ (VF ∷ [])) ((One ∷ []) ÷ (PEF ∷ [])) vf_term pef_term (stands_value (lit≤ tt) vf_stands) (stands_value (lit≤ tt) r.prepared.inverse_pef)
 
-  pub air_stands : Stands (two_width + 1) air_number (look (number_values dir f t) B)
+  pub air_stands : Stands air_width air_number (look (number_values dir f t) B)
   unfolding air_number
   air_stands = stands_is (sym added) (stands_add dir vf_stands r.prepared.inverse_pef (lit≤ tt) (lit≤ tt) refl)
 
@@ -170,11 +169,9 @@ module _ {dir : Direction} {m : ℕ} {f : Factors} {p : Prepared} {t : Contamina
   values_known n = fronted (worked (value_zero (stands_value (lit≤ tt) air_stands)) (worked hours_known (worked ages_known bare))) (number_inputs f t) input_known n
 
   -- ---- a number that stands for a formula's value stands for its term
-  pub side_term : (medium class : ℕ) (side : Side) (n : ℕ) {w : ℕ} {x : Number} → w ≤ formula_width →
-      Stands w x (evaluated (number_values dir f t) dir (get_or (pathways_of medium class side) n none)) →
-      Stands formula_width x (term_of (number_values dir f t) dir (get_or (pathways_of medium class side) n none))
-  side_term medium class side n h s =
-      stands_most h (stands_is (sym (term_evaluated (number_values dir f t) values_known dir (get_or (pathways_of medium class side) n none))) s)
+  pub term_stands : (g : Formula) {w : ℕ} {x : Number} → w ≤ formula_width → Stands w x (evaluated (number_values dir f t) dir g) →
+      Stands formula_width x (term_of (number_values dir f t) dir g)
+  term_stands g h s = stands_most h (stands_is (sym (term_evaluated (number_values dir f t) values_known dir g)) s)
 
 -- the product of the factors that are named, and of those after the stroke
 abbrev pub named : Direction → Factors → ContaminantNumbers → List ℕ → Decimal

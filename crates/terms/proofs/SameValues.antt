@@ -4,6 +4,7 @@ use mathlib.Core.List.{List, ◌++◌, map}
 use Rattle.rounding.specs.declared.Direction.{Direction}
 use Rattle.decimal.specs.declared.Decimal.{Decimal}
 use Rattle.decimal.specs.Decimal.{zero_of, working_of}
+use Rattle.inputs.specs.declared.kind.Inhalation.{Inhalation}
 use Rattle.inputs.specs.declared.Scenario.{Scenario}
 use Rattle.inputs.specs.declared.Contaminant.{Contaminant}
 use Rattle.factors.specs.declared.numbers.Factors.{Factors}
@@ -24,7 +25,7 @@ ready {dir} {m} {medium} {f} {p} e h g k =
     record { prepared = subst (λ (n : ℕ). PreparedFor dir n f p) (sym e) h; factors = all_own g; numbers = all_own k }
 
 -- ---- the same decimals
-pub values_same : (dir : Direction) (s : Scenario) (r : Contaminant) {f : Factors} {t : ContaminantNumbers} → FactorsFor s f → NumbersFor r t → number_values dir f t ≡ values_of dir (inputs_of s r)
+pub values_same : (dir : Direction) (s : Scenario) (r : Contaminant) {f : Factors} {t : ContaminantNumbers} → FactorsFor s f → NumbersFor s.inhalation r t → number_values dir f t ≡ values_of dir (inputs_of s r)
 unfolding number_values values_of derived
 values_same dir s r h k =
     ap₂ (λ (l m : List Decimal). values (map working_of constants ++ (l ++ m))) (all_same h) (all_same k)
@@ -33,7 +34,7 @@ values_same dir s r h k =
     values l = map (total_of (map (λ (fs : List Formula). zero_of) derived ++ l) dir) derived ++ l
 
 -- the terms of equal kinds
-pub terms_at : {dir : Direction} {f : Factors} {t : ContaminantNumbers} {medium class m k : ℕ} {r : Terms} → m ≡ medium → k ≡ class →
-    TermsFor dir f t m k r → TermsFor dir f t medium class r
-terms_at {dir} {f} {t} {medium} {class} {m} {k} {r} e g h =
-    subst (λ (n : ℕ). TermsFor dir f t n class r) e (subst (λ (n : ℕ). TermsFor dir f t m n r) g h)
+pub terms_at : {dir : Direction} {f : Factors} {t : ContaminantNumbers} {i : Inhalation} {medium class m k : ℕ} {r : Terms} → m ≡ medium → k ≡ class →
+    TermsFor dir f t i m k r → TermsFor dir f t i medium class r
+terms_at {dir} {f} {t} {i} {medium} {class} {m} {k} {r} e g h =
+    subst (λ (n : ℕ). TermsFor dir f t i n class r) e (subst (λ (n : ℕ). TermsFor dir f t i m n r) g h)

@@ -1,5 +1,5 @@
 -- What the code's terms of a side stand for: the terms of the table's formulas over the decimals that its numbers stand for.
-use Rattle.std.specs.Prelude.{List, ◌++◌, map, ℕ, ◌+◌, ◌≤◌, ◌<◌, ◌-◌, get_or}
+use Rattle.std.specs.Prelude.{List, [], ◌∷◌, ◌++◌, map, ℕ, ◌+◌, ◌≤◌, ◌<◌, ◌-◌, get_or}
 use Rattle.rounding.specs.Sizes.{ten_digits, bias}
 use Rattle.rounding.specs.declared.Direction.{Direction}
 use Rattle.rounding.specs.declared.Number.{Number}
@@ -11,9 +11,13 @@ use Rattle.factors.specs.declared.prepared.Prepared.{Prepared}
 use Rattle.terms.specs.declared.pathways.PathwayTerms.{PathwayTerms}
 use Rattle.formulas.specs.declared.Sides.{Sides}
 use Rattle.formulas.specs.Side.{Risk, Hazard}
-use Rattle.formulas.specs.Formula.{Formula, B, none, pathways_of, derived}
+use Rattle.inputs.specs.declared.kind.Medium.{Medium}
+use Rattle.inputs.specs.declared.kind.Medium.TheVariants.{Soil, Water}
+use Rattle.inputs.specs.declared.kind.Inhalation.{Inhalation}
+use Rattle.decimal.specs.Lists.{product_of}
+use Rattle.formulas.specs.Formula.{Formula, B, Half, EF, IRA, none, inhaled_risk, inhaled_hazard, pathways_of, derived}
 use Rattle.formulas.specs.Term.{look, constants, total_of, term_of}
-use Rattle.factors.specs.Widths.{formula_width, two_width}
+use Rattle.factors.specs.Widths.{formula_width, air_width, intake_width}
 use Rattle.factors.specs.Stands.{Stands, factor_numbers, contaminant_numbers, ReadyFactors, ReadyNumbers}
 use Rattle.factors.specs.Prepared.{PreparedFor}
 
@@ -35,9 +39,14 @@ pub record Ready (dir : Direction) (medium : ℕ) (f : Factors) (p : Prepared) (
   pub factors : ReadyFactors f
   pub numbers : ReadyNumbers t
 
--- b is B in a direction
-pub record Air (dir : Direction) (f : Factors) (t : ContaminantNumbers) (b : Number) : Type 0 where
-  pub stands : Stands (two_width + 1) b (look (number_values dir f t) B)
+-- the factor from soil or water to the air: B in soil, 0.5 in water
+abbrev pub air_place : Medium → ℕ
+air_place Soil = B
+air_place Water = Half
+
+-- a is that factor in a direction
+pub record AirFor (dir : Direction) (f : Factors) (t : ContaminantNumbers) (m : Medium) (a : Number) : Type 0 where
+  pub stands : Stands air_width a (look (number_values dir f t) (air_place m))
 
 -- n is the term of pathway i, counted from 0, of these formulas
 abbrev pub TermFor : Direction → Factors → ContaminantNumbers → List Formula → ℕ → Number → Type 0
@@ -48,14 +57,23 @@ pub record SideFor (dir : Direction) (f : Factors) (t : ContaminantNumbers) (fs 
   pub second : TermFor dir f t fs 1 s.second
   pub third : TermFor dir f t fs 2 s.third
 
--- the third terms of a chemical in soil, of risk and of hazard
-pub record SkinFor (dir : Direction) (f : Factors) (t : ContaminantNumbers) (r : Sides Number) : Type 0 where
-  pub risk : TermFor dir f t (pathways_of 1 1 Risk) 2 r.risk
-  pub hazard : TermFor dir f t (pathways_of 1 1 Hazard) 2 r.hazard
+-- r is IRA, that factor, EF: what hazard by intake divides
+abbrev pub IntakeFor : Direction → Factors → ContaminantNumbers → Medium → Number → Type 0
+IntakeFor dir f t m r = Stands intake_width r (product_of dir (map (look (number_values dir f t)) (IRA ∷ air_place m ∷ EF ∷ [])))
 
-pub record TermsFor (dir : Direction) (f : Factors) (t : ContaminantNumbers) (medium class : ℕ) (r : Terms) : Type 0 where
-  pub risk : SideFor dir f t (pathways_of medium class Risk) r.risk
-  pub hazard : SideFor dir f t (pathways_of medium class Hazard) r.hazard
+-- r is the inhalation of a chemical in a medium, of risk and of hazard
+pub record InhaledFor (dir : Direction) (f : Factors) (t : ContaminantNumbers) (i : Inhalation) (m : Medium) (r : Sides Number) : Type 0 where
+  pub risk : Stands formula_width r.risk (term_of (number_values dir f t) dir (inhaled_risk i (air_place m)))
+  pub hazard : Stands formula_width r.hazard (term_of (number_values dir f t) dir (inhaled_hazard i (air_place m)))
+
+-- the third terms of a chemical in soil, of risk and of hazard, which are the same by intake and by concentration
+pub record SkinFor (dir : Direction) (f : Factors) (t : ContaminantNumbers) (r : Sides Number) : Type 0 where
+  pub risk : (i : Inhalation) → TermFor dir f t (pathways_of i 1 1 Risk) 2 r.risk
+  pub hazard : (i : Inhalation) → TermFor dir f t (pathways_of i 1 1 Hazard) 2 r.hazard
+
+pub record TermsFor (dir : Direction) (f : Factors) (t : ContaminantNumbers) (i : Inhalation) (medium class : ℕ) (r : Terms) : Type 0 where
+  pub risk : SideFor dir f t (pathways_of i medium class Risk) r.risk
+  pub hazard : SideFor dir f t (pathways_of i medium class Hazard) r.hazard
 
 abbrev pub no_side : PathwayTerms
 no_side = record { first = record { m = 0; x = (bias - 8) }; second = record { m = 0; x = (bias - 8) }; third = record { m = 0; x = (bias - 8) } }

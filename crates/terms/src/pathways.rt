@@ -6,18 +6,19 @@ ghost use Rattle.std.specs.Prelude.{◌≡◌};
 ghost use Rattle.rounding.specs.Operations.{sum_of};
 ghost use Rattle.formulas.specs.Side.{Risk, Hazard};
 ghost use Rattle.formulas.specs.Formula.{pathways_of};
-ghost use Rattle.terms.specs.Side.{Ready, Air, no_side, TermFor, SideFor, SkinFor, TermsFor, WideSide, TotalSize};
+ghost use Rattle.terms.specs.Side.{Ready, AirFor, IntakeFor, no_side, TermFor, SideFor, InhaledFor, SkinFor, TermsFor, WideSide, TotalSize};
 ghost use Rattle.terms.specs.OneProof.{one_ready};
 ghost use Rattle.inputs.specs.Kinds.{medium_number, class_number};
 ghost use Rattle.inputs.specs.declared.kind.Medium.TheVariants.{Soil, Water};
+ghost use Rattle.inputs.specs.declared.kind.Inhalation.TheVariants.{Intake, Concentration};
 
 use factors::numbers::{ContaminantNumbers, Factors};
 use factors::prepared::{DAYS, HALF, MILLIONTH, ONE, Prepared, product3};
 use formulas::Sides;
-use inputs::{Class, Medium};
+use inputs::{Class, Inhalation, Medium};
 use rounding::{BIAS, Direction, NINE_DIGITS, Number};
 
-// The constants that only a term names: 10^-3, 10^3 and 0.000114.
+// The constants that only a term names: 10^-3, 10^3, 24 and 0.000114.
 const THOUSANDTH: Number = Number {
     m: NINE_DIGITS,
     x: BIAS - 11,
@@ -26,6 +27,11 @@ const THOUSANDTH: Number = Number {
 const THOUSAND: Number = Number {
     m: NINE_DIGITS,
     x: BIAS - 5,
+};
+
+const HOURS_PER_DAY: Number = Number {
+    m: 240_000_000,
+    x: BIAS - 7,
 };
 
 const YEARS_PER_HOUR: Number = Number {
@@ -45,13 +51,14 @@ pub struct PathwayTerms {
 pub type Terms = Sides<PathwayTerms>;
 
 // What the terms are worked out from in a direction: the factors of a scenario and
-// their products, the numbers of a contaminant, and the medium.
+// their products, the numbers of a contaminant, the medium, and how inhalation is worked out.
 #[derive(Clone, Copy)]
 struct Given {
     f: Factors,
     p: Prepared,
     t: ContaminantNumbers,
     medium: Medium,
+    inhalation: Inhalation,
     dir: Direction,
     ghost ready: { Ready dir (medium_number medium) f p t } by { one_ready dir (medium_number medium) f p t },
 }
@@ -59,52 +66,44 @@ struct Given {
 impl Given {
     // B = 1/VF + 1/PEF.
     fn air(self) -> Number
-        ensures { Air self.dir self.f self.t result }
+        ensures { AirFor self.dir self.f self.t Soil result }
     {
         ONE.div(self.t.transfer.vf, self.dir)
             .add(self.p.inverse_pef, self.dir)
     }
 
     // Soil, chemical, risk: ingestion, inhalation and skin.
-    fn soil_chemical_risk(self, b: Number, skin: Number) -> PathwayTerms
-        requires { (Air self.dir self.f self.t b) × TermFor self.dir self.f self.t (pathways_of 1 1 Risk) 2 skin }
-        ensures { SideFor self.dir self.f self.t (pathways_of 1 1 Risk) result }
+    fn soil_chemical_risk(self, inhaled: Number, skin: Number) -> PathwayTerms
+        requires { TermFor self.dir self.f self.t (pathways_of self.inhalation 1 1 Risk) 1 inhaled × TermFor self.dir self.f self.t (pathways_of self.inhalation 1 1 Risk) 2 skin }
+        ensures { SideFor self.dir self.f self.t (pathways_of self.inhalation 1 1 Risk) result }
     {
         let Given { f, p, t, dir, .. } = self;
         let e = f.exposure;
-        let k = f.contact;
-        let x = t.toxicity;
-        let swallowed = product3(product3(x.sfo, k.ir, MILLIONTH, dir), e.ef, e.ed, dir);
-        let inhaled = product3(product3(x.sfi, k.ira, b, dir), e.ef, e.ed, dir);
+        let swallowed = product3(t.toxicity.sfo, f.contact.ir, MILLIONTH, dir);
         PathwayTerms {
-            first: swallowed.div(p.lifetime, dir),
-            second: inhaled.div(p.lifetime, dir),
+            first: product3(swallowed, e.ef, e.ed, dir).div(p.lifetime, dir),
+            second: inhaled,
             third: skin,
         }
     }
 
     // Soil, chemical, hazard: ingestion, inhalation and skin.
-    fn soil_chemical_hazard(self, b: Number, skin: Number) -> PathwayTerms
-        requires { (Air self.dir self.f self.t b) × TermFor self.dir self.f self.t (pathways_of 1 1 Hazard) 2 skin }
-        ensures { SideFor self.dir self.f self.t (pathways_of 1 1 Hazard) result }
+    fn soil_chemical_hazard(self, inhaled: Number, skin: Number) -> PathwayTerms
+        requires { TermFor self.dir self.f self.t (pathways_of self.inhalation 1 1 Hazard) 1 inhaled × TermFor self.dir self.f self.t (pathways_of self.inhalation 1 1 Hazard) 2 skin }
+        ensures { SideFor self.dir self.f self.t (pathways_of self.inhalation 1 1 Hazard) result }
     {
         let Given { f, p, t, dir, .. } = self;
-        let e = f.exposure;
-        let k = f.contact;
-        let x = t.toxicity;
-        let back = dir.opposite();
-        let oral = product3(x.rfdo, e.bw, DAYS, back);
-        let inhaled = product3(x.rfdi, e.bw, DAYS, back);
+        let oral = product3(t.toxicity.rfdo, f.exposure.bw, DAYS, dir.opposite());
         PathwayTerms {
             first: p.soil_intake.div(oral, dir),
-            second: product3(k.ira, b, e.ef, dir).div(inhaled, dir),
+            second: inhaled,
             third: skin,
         }
     }
 
     // Soil, radionuclide, risk: ingestion, inhalation and external radiation.
     fn soil_radionuclide_risk(self) -> PathwayTerms
-        ensures { SideFor self.dir self.f self.t (pathways_of 1 2 Risk) result }
+        ensures { SideFor self.dir self.f self.t (pathways_of self.inhalation 1 2 Risk) result }
     {
         let Given { f, t, dir, .. } = self;
         let e = f.exposure;
@@ -120,8 +119,9 @@ impl Given {
     }
 
     // Water, chemical, risk: ingestion, vapour and skin.
-    fn water_chemical_risk(self) -> PathwayTerms
-        ensures { SideFor self.dir self.f self.t (pathways_of 2 1 Risk) result }
+    fn water_chemical_risk(self, inhaled: Number) -> PathwayTerms
+        requires { TermFor self.dir self.f self.t (pathways_of self.inhalation 2 1 Risk) 1 inhaled }
+        ensures { SideFor self.dir self.f self.t (pathways_of self.inhalation 2 1 Risk) result }
     {
         let Given { f, p, t, dir, .. } = self;
         let e = f.exposure;
@@ -129,39 +129,36 @@ impl Given {
         let x = t.toxicity;
         let pc = t.transfer.pc;
         let swallowed = product3(x.sfo.mul(k.ir, dir), e.ef, e.ed, dir);
-        let inhaled = product3(product3(x.sfi, k.ira, HALF, dir), e.ef, e.ed, dir);
         let wet = product3(product3(x.sfo, k.sa, pc, dir), k.et, THOUSANDTH, dir);
         let absorbed = product3(wet, e.ef, e.ed, dir);
         PathwayTerms {
             first: swallowed.div(p.lifetime, dir),
-            second: inhaled.div(p.lifetime, dir),
+            second: inhaled,
             third: absorbed.div(p.lifetime, dir),
         }
     }
 
     // Water, chemical, hazard: ingestion, vapour and skin.
-    fn water_chemical_hazard(self) -> PathwayTerms
-        ensures { SideFor self.dir self.f self.t (pathways_of 2 1 Hazard) result }
+    fn water_chemical_hazard(self, inhaled: Number) -> PathwayTerms
+        requires { TermFor self.dir self.f self.t (pathways_of self.inhalation 2 1 Hazard) 1 inhaled }
+        ensures { SideFor self.dir self.f self.t (pathways_of self.inhalation 2 1 Hazard) result }
     {
         let Given { f, p, t, dir, .. } = self;
         let e = f.exposure;
         let k = f.contact;
-        let x = t.toxicity;
         let pc = t.transfer.pc;
-        let back = dir.opposite();
-        let oral = product3(x.rfdo, e.bw, DAYS, back);
-        let inhaled = product3(x.rfdi, e.bw, DAYS, back);
+        let oral = product3(t.toxicity.rfdo, e.bw, DAYS, dir.opposite());
         let absorbed = product3(product3(k.sa, pc, k.et, dir), THOUSANDTH, e.ef, dir);
         PathwayTerms {
             first: p.water_intake.div(oral, dir),
-            second: p.vapour_intake.div(inhaled, dir),
+            second: inhaled,
             third: absorbed.div(oral, dir),
         }
     }
 
     // Water, radionuclide, risk: ingestion.
     fn water_radionuclide_risk(self) -> PathwayTerms
-        ensures { SideFor self.dir self.f self.t (pathways_of 2 2 Risk) result }
+        ensures { SideFor self.dir self.f self.t (pathways_of self.inhalation 2 2 Risk) result }
     {
         let Given { f, t, dir, .. } = self;
         let e = f.exposure;
@@ -177,7 +174,7 @@ impl Given {
     // Water, tritium, risk: ingestion as of a radionuclide, inhalation and skin.
     fn water_tritium_risk(self) -> PathwayTerms
         requires { self.medium ≡ Water }
-        ensures { SideFor self.dir self.f self.t (pathways_of 2 3 Risk) result }
+        ensures { SideFor self.dir self.f self.t (pathways_of self.inhalation 2 3 Risk) result }
     {
         let Given { f, p, t, dir, .. } = self;
         let e = f.exposure;
@@ -207,6 +204,92 @@ fn no_side() -> PathwayTerms
         first: Number::ZERO,
         second: Number::ZERO,
         third: Number::ZERO,
+    }
+}
+
+// What hazard by intake divides: IRA, the factor from soil or water to the air, EF. In water it is prepared.
+fn intake(
+    f: &Factors,
+    p: &Prepared,
+    t: &ContaminantNumbers,
+    medium: Medium,
+    air: Number,
+    dir: Direction,
+) -> Number
+    requires { Ready dir (medium_number medium) f.now p.now t.now × AirFor dir f.now t.now medium air }
+    ensures { IntakeFor dir f.now t.now medium result }
+{
+    match medium {
+        Medium::Soil => product3(f.contact.ira, air, f.exposure.ef, dir),
+        Medium::Water => p.vapour_intake,
+    }
+}
+
+// Inhalation of a chemical by intake, of risk and of hazard, with the factor from soil or water to the air: B or 0.5.
+fn by_intake(
+    f: &Factors,
+    p: &Prepared,
+    t: &ContaminantNumbers,
+    medium: Medium,
+    air: Number,
+    dir: Direction,
+) -> Sides<Number>
+    requires { Ready dir (medium_number medium) f.now p.now t.now × AirFor dir f.now t.now medium air }
+    ensures { InhaledFor dir f.now t.now Intake medium result }
+{
+    let e = f.exposure;
+    let x = t.toxicity;
+    let inhaled = product3(product3(x.sfi, f.contact.ira, air, dir), e.ef, e.ed, dir);
+    let intake = intake(f, p, t, medium, air, dir);
+    let dose = product3(x.rfdi, e.bw, DAYS, dir.opposite());
+    Sides {
+        risk: inhaled.div(p.lifetime, dir),
+        hazard: intake.div(dose, dir),
+    }
+}
+
+// The same by concentration. It stands by itself, so that inhalation by intake does not pay for its room.
+#[cold]
+#[inline(never)]
+fn by_concentration(
+    f: &Factors,
+    p: &Prepared,
+    t: &ContaminantNumbers,
+    medium: Medium,
+    air: Number,
+    dir: Direction,
+) -> Sides<Number>
+    requires { Ready dir (medium_number medium) f.now p.now t.now × AirFor dir f.now t.now medium air }
+    ensures { InhaledFor dir f.now t.now Concentration medium result }
+{
+    let e = f.exposure;
+    let a = f.air_hours;
+    let back = dir.opposite();
+    let inhaled = product3(product3(t.in_air.u, THOUSAND, air, dir), a, e.ef, dir).mul(e.ed, dir);
+    let lifetime = p.averaging.mul(HOURS_PER_DAY, back);
+    let dose = product3(t.in_air.q, DAYS, HOURS_PER_DAY, back);
+    Sides {
+        risk: inhaled.div(lifetime, dir),
+        hazard: product3(air, a, e.ef, dir).div(dose, dir),
+    }
+}
+
+// Inhalation of a chemical, by intake or by concentration.
+fn inhaled(
+    f: &Factors,
+    p: &Prepared,
+    t: &ContaminantNumbers,
+    medium: Medium,
+    inhalation: Inhalation,
+    air: Number,
+    dir: Direction,
+) -> Sides<Number>
+    requires { Ready dir (medium_number medium) f.now p.now t.now × AirFor dir f.now t.now medium air }
+    ensures { InhaledFor dir f.now t.now inhalation medium result }
+{
+    match inhalation {
+        Inhalation::Intake => by_intake(f, p, t, medium, air, dir),
+        Inhalation::Concentration => by_concentration(f, p, t, medium, air, dir),
     }
 }
 
@@ -248,36 +331,42 @@ pub fn terms_of(
     p: &Prepared,
     t: &ContaminantNumbers,
     medium: Medium,
+    inhalation: Inhalation,
     class: Class,
     dir: Direction,
 ) -> Terms
     requires { Ready dir (medium_number medium) f.now p.now t.now }
-    ensures { TermsFor dir f.now t.now (medium_number medium) (class_number class) result }
+    ensures { TermsFor dir f.now t.now inhalation (medium_number medium) (class_number class) result }
 {
     let given = Given {
         f: *f,
         p: *p,
         t: *t,
         medium,
+        inhalation,
         dir,
     };
     match (class, medium) {
         (Class::Chemical, Medium::Soil) => {
             let b = given.air();
+            let breathed = inhaled(f, p, t, Medium::Soil, inhalation, b, dir);
             let skin = on_skin(f, p, t, dir);
             Terms {
-                risk: given.soil_chemical_risk(b, skin.risk),
-                hazard: given.soil_chemical_hazard(b, skin.hazard),
+                risk: given.soil_chemical_risk(breathed.risk, skin.risk),
+                hazard: given.soil_chemical_hazard(breathed.hazard, skin.hazard),
             }
         }
         (Class::Radionuclide, Medium::Soil) => Terms {
             risk: given.soil_radionuclide_risk(),
             hazard: no_side(),
         },
-        (Class::Chemical, Medium::Water) => Terms {
-            risk: given.water_chemical_risk(),
-            hazard: given.water_chemical_hazard(),
-        },
+        (Class::Chemical, Medium::Water) => {
+            let breathed = inhaled(f, p, t, Medium::Water, inhalation, HALF, dir);
+            Terms {
+                risk: given.water_chemical_risk(breathed.risk),
+                hazard: given.water_chemical_hazard(breathed.hazard),
+            }
+        }
         (Class::Radionuclide, Medium::Water) => Terms {
             risk: given.water_radionuclide_risk(),
             hazard: no_side(),

@@ -56,6 +56,6 @@ unfolding pathways_of table
 returns-then-t-p c =
     let absent = zero_term c.requires refl in
     record {
-      risk = absent (get_or (pathways_of 1 1 Risk) 2 none) 1 4 (lit< tt) refl (lit< tt) refl c.if-t-p.true;
-      hazard = absent (get_or (pathways_of 1 1 Hazard) 2 none) 0 3 (lit< tt) refl (lit< tt) refl c.if-t-p.true;
+      risk = λ i. absent (get_or (pathways_of i 1 1 Risk) 2 none) 1 4 (lit< tt) refl (lit< tt) refl c.if-t-p.true;
+      hazard = λ i. absent (get_or (pathways_of i 1 1 Hazard) 2 none) 0 3 (lit< tt) refl (lit< tt) refl c.if-t-p.true;
     }

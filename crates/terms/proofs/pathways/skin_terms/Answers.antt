@@ -6,7 +6,6 @@ use Rattle.rounding.specs.declared.Number.{Number}
 use Rattle.rounding.specs.Operations.{product_of}
 use Rattle.inputs.specs.declared.kind.Medium.TheVariants.{Soil}
 use Rattle.inputs.specs.Kinds.{medium_number}
-use Rattle.formulas.specs.Side.{Risk, Hazard}
 use Rattle.formulas.specs.Formula.{G, Millionth, Days, ED, AF, ABS, SFo, RfDo, table, pathways_of, derived}
 use Rattle.factors.specs.declared.numbers.Factors.{Factors}
 use Rattle.factors.specs.declared.numbers.ContaminantNumbers.{ContaminantNumbers}
@@ -15,7 +14,7 @@ use Rattle.factors.specs.Stands.{Stands}
 use Rattle.factors.specs.Widths.{input_width, three_width, ages_width}
 use Rattle.terms.specs.Side.{number_values, Ready}
 use Rattle.factors.proofs.StandsLaws.{stands_mul, stands_mul3, stands_div, stands_middle}
-use Rattle.terms.proofs.NumberValues.{named, input, middle, side_term, ages_stand}
+use Rattle.terms.proofs.NumberValues.{named, input, middle, term_stands, ages_stand}
 use Rattle.terms.proofs.Products.{number, three_inputs, three_below, three_fit, quotient_fits}
 use Rattle.terms.proofs.pathways.skin_terms.Goals as goal
 
@@ -73,6 +72,6 @@ returns c =
     let hazard = dosed ready soil c.product3-2.ensures.0 c.mul-hazard.ensures.0 in
     let dose = three_below ready RfDo ED Days c.opposite.ensures c.product3-dose.ensures.0 in
     record {
-      risk = side_term ready 1 1 Risk 2 (lit≤ tt) (stands_div dir risk ready.prepared.averaging (lit≤ tt) c.div.ensures.0);
-      hazard = side_term ready 1 1 Hazard 2 (lit≤ tt) (stands_div dir hazard dose (lit≤ tt) c.div-2.ensures.0);
+      risk = λ i. term_stands ready _ (lit≤ tt) (stands_div dir risk ready.prepared.averaging (lit≤ tt) c.div.ensures.0);
+      hazard = λ i. term_stands ready _ (lit≤ tt) (stands_div dir hazard dose (lit≤ tt) c.div-2.ensures.0);
     }

@@ -1,9 +1,9 @@
 -- `terms::pathways::Given::air`: what the code adds up is B.
-use Rattle.std.proofs.Common.{◌+◌, sym, ap, subst, ◌∙◌}
+use Rattle.std.proofs.Common.{sym, ap, subst, ◌∙◌}
 use lib.Dec.{lit≤}
 use Rattle.rounding.specs.declared.Number.{Number}
 use Rattle.rounding.specs.Operations.{sum_of}
-use Rattle.factors.specs.Widths.{two_width}
+use Rattle.factors.specs.Widths.{air_width}
 use Rattle.formulas.specs.Formula.{B, One, VF}
 use Rattle.formulas.specs.Term.{look}
 use Rattle.factors.specs.Stands.{Stands}
@@ -28,4 +28,4 @@ unfolding air_number
 returns c =
     let a = c.args.self in
     let e = c.add.ensures.0 ∙ ap (λ (q : Number). sum_of a.dir q a.p.inverse_pef) c.div.ensures.0 in
-    record { stands = subst (λ (b : Number). Stands (two_width + 1) b (look (number_values a.dir a.f a.t) B)) (sym e) (air_stands c.args.self.ready) }
+    record { stands = subst (λ (b : Number). Stands air_width b (look (number_values a.dir a.f a.t) B)) (sym e) (air_stands c.args.self.ready) }

@@ -4,7 +4,6 @@ use lib.Dec.{lit≤}
 use Rattle.rounding.specs.declared.Direction.{Direction}
 use Rattle.rounding.specs.declared.Number.{Number}
 use Rattle.rounding.specs.Operations.{product_of}
-use Rattle.formulas.specs.Side.{Risk}
 use Rattle.formulas.specs.Formula.{Millionth, YearsPerHour, EF, ED, IR, IRA, PEF, ET, RF, SFo, SFi, SFx, table, pathways_of, derived}
 use Rattle.factors.specs.declared.numbers.Factors.{Factors}
 use Rattle.factors.specs.declared.numbers.ContaminantNumbers.{ContaminantNumbers}
@@ -13,7 +12,7 @@ use Rattle.factors.specs.Stands.{Stands}
 use Rattle.terms.specs.Side.{number_values, Ready}
 use Rattle.factors.proofs.StandsLaws.{stands_div, stands_mul, stands_operand}
 use Rattle.factors.proofs.Constants.{num}
-use Rattle.terms.proofs.NumberValues.{named, input, range, side_term}
+use Rattle.terms.proofs.NumberValues.{named, input, range, term_stands}
 use Rattle.terms.proofs.Products.{two_inputs, three_inputs, two_more, three_fit, two_more_fit}
 use Rattle.terms.proofs.pathways.Given.soil_radionuclide_risk.Goals as goal
 
@@ -66,7 +65,7 @@ returns c =
     let ready = c.args.self.ready in
     let breathed = two_more ready EF ED (two_inputs ready SFi IRA c.mul.ensures.0) (lit≤ tt) c.product3-inhaled.ensures.0 in
     record {
-      first = side_term ready 1 2 Risk 0 (lit≤ tt) (two_more ready EF ED (three_inputs ready SFo IR Millionth c.product3-2.ensures.0) (lit≤ tt) c.product3-3.ensures.0);
-      second = side_term ready 1 2 Risk 1 (lit≤ tt) (stands_div c.args.self.dir breathed (input ready PEF) (lit≤ tt) c.div.ensures.0);
-      third = side_term ready 1 2 Risk 2 (lit≤ tt) (two_more ready EF ED (outdoors4 ready c.product3.ensures.0 c.mul-outdoors.ensures.0) (lit≤ tt) c.product3-4.ensures.0);
+      first = term_stands ready _ (lit≤ tt) (two_more ready EF ED (three_inputs ready SFo IR Millionth c.product3-2.ensures.0) (lit≤ tt) c.product3-3.ensures.0);
+      second = term_stands ready _ (lit≤ tt) (stands_div c.args.self.dir breathed (input ready PEF) (lit≤ tt) c.div.ensures.0);
+      third = term_stands ready _ (lit≤ tt) (two_more ready EF ED (outdoors4 ready c.product3.ensures.0 c.mul-outdoors.ensures.0) (lit≤ tt) c.product3-4.ensures.0);
     }

@@ -1,19 +1,15 @@
 -- `terms::pathways::Given::water_chemical_hazard`: each term is that of its formula in the table.
 use lib.Dec.{lit≤}
-use Rattle.formulas.specs.Side.{Hazard}
-use Rattle.formulas.specs.Formula.{Thousandth, Days, EF, BW, ET, SA, RfDo, RfDi, PC, table, pathways_of, derived}
+use Rattle.formulas.specs.Formula.{Thousandth, Days, EF, BW, ET, SA, RfDo, PC, table, pathways_of, derived}
 use Rattle.terms.specs.Side.{number_values}
 use Rattle.factors.proofs.StandsLaws.{stands_div}
-use Rattle.terms.proofs.NumberValues.{side_term}
+use Rattle.terms.proofs.NumberValues.{term_stands}
 use Rattle.terms.proofs.Products.{three_inputs, two_more, three_below, three_fit, two_more_fit, quotient_fits}
 use Rattle.terms.proofs.pathways.Given.water_chemical_hazard.Goals as goal
 
 -- ---- what it may multiply and divide
 pub product3-oral-requires : goal.product3-oral-requires
 product3-oral-requires c = three_fit c.args.self.ready RfDo BW Days
-
-pub product3-inhaled-requires : goal.product3-inhaled-requires
-product3-inhaled-requires c = three_fit c.args.self.ready RfDi BW Days
 
 pub product3-requires : goal.product3-requires
 product3-requires c = three_fit c.args.self.ready SA PC ET
@@ -26,20 +22,14 @@ product3-absorbed-requires c =
 pub div-requires : goal.div-requires
 div-requires c =
     let ready = c.args.self.ready in
-    let divisor = three_below ready RfDo BW Days c.opposite-back.ensures c.product3-oral.ensures.0 in
+    let divisor = three_below ready RfDo BW Days c.opposite.ensures c.product3-oral.ensures.0 in
     quotient_fits ready.prepared.water_intake (lit≤ tt) divisor (lit≤ tt)
 
 pub div-requires-2 : goal.div-requires-2
 div-requires-2 c =
     let ready = c.args.self.ready in
-    let divisor = three_below ready RfDi BW Days c.opposite-back.ensures c.product3-inhaled.ensures.0 in
-    quotient_fits ready.prepared.vapour_intake (lit≤ tt) divisor (lit≤ tt)
-
-pub div-requires-3 : goal.div-requires-3
-div-requires-3 c =
-    let ready = c.args.self.ready in
     let dividend = two_more ready Thousandth EF (three_inputs ready SA PC ET c.product3.ensures.0) (lit≤ tt) c.product3-absorbed.ensures.0 in
-    let divisor = three_below ready RfDo BW Days c.opposite-back.ensures c.product3-oral.ensures.0 in
+    let divisor = three_below ready RfDo BW Days c.opposite.ensures c.product3-oral.ensures.0 in
     quotient_fits dividend (lit≤ tt) divisor (lit≤ tt)
 
 pub returns : goal.returns
@@ -47,11 +37,10 @@ unfolding number_values derived pathways_of table
 returns c =
     let ready = c.args.self.ready in
     let dir = c.args.self.dir in
-    let swallowed = three_below ready RfDo BW Days c.opposite-back.ensures c.product3-oral.ensures.0 in
-    let breathed = three_below ready RfDi BW Days c.opposite-back.ensures c.product3-inhaled.ensures.0 in
+    let swallowed = three_below ready RfDo BW Days c.opposite.ensures c.product3-oral.ensures.0 in
     let absorbed = two_more ready Thousandth EF (three_inputs ready SA PC ET c.product3.ensures.0) (lit≤ tt) c.product3-absorbed.ensures.0 in
     record {
-      first = side_term ready 2 1 Hazard 0 (lit≤ tt) (stands_div dir ready.prepared.water_intake swallowed (lit≤ tt) c.div.ensures.0);
-      second = side_term ready 2 1 Hazard 1 (lit≤ tt) (stands_div dir ready.prepared.vapour_intake breathed (lit≤ tt) c.div-2.ensures.0);
-      third = side_term ready 2 1 Hazard 2 (lit≤ tt) (stands_div dir absorbed swallowed (lit≤ tt) c.div-3.ensures.0);
+      first = term_stands ready _ (lit≤ tt) (stands_div dir ready.prepared.water_intake swallowed (lit≤ tt) c.div.ensures.0);
+      second = c.requires;
+      third = term_stands ready _ (lit≤ tt) (stands_div dir absorbed swallowed (lit≤ tt) c.div-2.ensures.0);
     }

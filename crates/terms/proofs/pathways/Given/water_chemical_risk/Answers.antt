@@ -1,10 +1,9 @@
 -- `terms::pathways::Given::water_chemical_risk`: each term is that of its formula in the table.
 use lib.Dec.{lit≤}
-use Rattle.formulas.specs.Side.{Risk}
-use Rattle.formulas.specs.Formula.{Thousandth, Half, EF, ED, IR, IRA, ET, SA, SFo, SFi, PC, table, pathways_of, derived}
+use Rattle.formulas.specs.Formula.{Thousandth, EF, ED, IR, ET, SA, SFo, PC, table, pathways_of, derived}
 use Rattle.terms.specs.Side.{number_values}
 use Rattle.factors.proofs.StandsLaws.{stands_div}
-use Rattle.terms.proofs.NumberValues.{range, side_term}
+use Rattle.terms.proofs.NumberValues.{range, term_stands}
 use Rattle.terms.proofs.Products.{two_inputs, three_inputs, two_more, three_fit, two_more_fit, quotient_fits}
 use Rattle.terms.proofs.pathways.Given.water_chemical_risk.Goals as goal
 
@@ -18,25 +17,17 @@ product3-swallowed-requires c =
     two_more_fit ready EF ED (two_inputs ready SFo IR c.mul.ensures.0) (lit≤ tt)
 
 pub product3-requires : goal.product3-requires
-product3-requires c = three_fit c.args.self.ready SFi IRA Half
-
-pub product3-inhaled-requires : goal.product3-inhaled-requires
-product3-inhaled-requires c =
-    let ready = c.args.self.ready in
-    two_more_fit ready EF ED (three_inputs ready SFi IRA Half c.product3.ensures.0) (lit≤ tt)
-
-pub product3-requires-2 : goal.product3-requires-2
-product3-requires-2 c = three_fit c.args.self.ready SFo SA PC
+product3-requires c = three_fit c.args.self.ready SFo SA PC
 
 pub product3-wet-requires : goal.product3-wet-requires
 product3-wet-requires c =
     let ready = c.args.self.ready in
-    two_more_fit ready ET Thousandth (three_inputs ready SFo SA PC c.product3-2.ensures.0) (lit≤ tt)
+    two_more_fit ready ET Thousandth (three_inputs ready SFo SA PC c.product3.ensures.0) (lit≤ tt)
 
 pub product3-absorbed-requires : goal.product3-absorbed-requires
 product3-absorbed-requires c =
     let ready = c.args.self.ready in
-    two_more_fit ready EF ED (two_more ready ET Thousandth (three_inputs ready SFo SA PC c.product3-2.ensures.0) (lit≤ tt) c.product3-wet.ensures.0) (lit≤ tt)
+    two_more_fit ready EF ED (two_more ready ET Thousandth (three_inputs ready SFo SA PC c.product3.ensures.0) (lit≤ tt) c.product3-wet.ensures.0) (lit≤ tt)
 
 pub div-requires : goal.div-requires
 div-requires c =
@@ -47,13 +38,7 @@ div-requires c =
 pub div-requires-2 : goal.div-requires-2
 div-requires-2 c =
     let ready = c.args.self.ready in
-    let dividend = two_more ready EF ED (three_inputs ready SFi IRA Half c.product3.ensures.0) (lit≤ tt) c.product3-inhaled.ensures.0 in
-    quotient_fits dividend (lit≤ tt) ready.prepared.lifetime (lit≤ tt)
-
-pub div-requires-3 : goal.div-requires-3
-div-requires-3 c =
-    let ready = c.args.self.ready in
-    let wet = two_more ready ET Thousandth (three_inputs ready SFo SA PC c.product3-2.ensures.0) (lit≤ tt) c.product3-wet.ensures.0 in
+    let wet = two_more ready ET Thousandth (three_inputs ready SFo SA PC c.product3.ensures.0) (lit≤ tt) c.product3-wet.ensures.0 in
     let dividend = two_more ready EF ED wet (lit≤ tt) c.product3-absorbed.ensures.0 in
     quotient_fits dividend (lit≤ tt) ready.prepared.lifetime (lit≤ tt)
 
@@ -63,11 +48,10 @@ returns c =
     let ready = c.args.self.ready in
     let dir = c.args.self.dir in
     let swallowed = two_more ready EF ED (two_inputs ready SFo IR c.mul.ensures.0) (lit≤ tt) c.product3-swallowed.ensures.0 in
-    let breathed = two_more ready EF ED (three_inputs ready SFi IRA Half c.product3.ensures.0) (lit≤ tt) c.product3-inhaled.ensures.0 in
-    let wet = two_more ready ET Thousandth (three_inputs ready SFo SA PC c.product3-2.ensures.0) (lit≤ tt) c.product3-wet.ensures.0 in
+    let wet = two_more ready ET Thousandth (three_inputs ready SFo SA PC c.product3.ensures.0) (lit≤ tt) c.product3-wet.ensures.0 in
     let absorbed = two_more ready EF ED wet (lit≤ tt) c.product3-absorbed.ensures.0 in
     record {
-      first = side_term ready 2 1 Risk 0 (lit≤ tt) (stands_div dir swallowed ready.prepared.lifetime (lit≤ tt) c.div.ensures.0);
-      second = side_term ready 2 1 Risk 1 (lit≤ tt) (stands_div dir breathed ready.prepared.lifetime (lit≤ tt) c.div-2.ensures.0);
-      third = side_term ready 2 1 Risk 2 (lit≤ tt) (stands_div dir absorbed ready.prepared.lifetime (lit≤ tt) c.div-3.ensures.0);
+      first = term_stands ready _ (lit≤ tt) (stands_div dir swallowed ready.prepared.lifetime (lit≤ tt) c.div.ensures.0);
+      second = c.requires;
+      third = term_stands ready _ (lit≤ tt) (stands_div dir absorbed ready.prepared.lifetime (lit≤ tt) c.div-2.ensures.0);
     }

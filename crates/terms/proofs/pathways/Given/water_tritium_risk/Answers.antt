@@ -6,7 +6,6 @@ use Rattle.rounding.specs.declared.Number.{Number}
 use Rattle.rounding.specs.Operations.{product_of}
 use Rattle.inputs.specs.declared.kind.Medium.TheVariants.{Water}
 use Rattle.inputs.specs.Kinds.{medium_number}
-use Rattle.formulas.specs.Side.{Risk}
 use Rattle.formulas.specs.Formula.{H, Thousandth, Thousand, EF, ED, IRA, ET, SA, M, K, SFo, SFi, table, pathways_of, derived}
 use Rattle.factors.specs.declared.numbers.Factors.{Factors}
 use Rattle.factors.specs.declared.numbers.ContaminantNumbers.{ContaminantNumbers}
@@ -15,7 +14,7 @@ use Rattle.factors.specs.Stands.{Stands}
 use Rattle.factors.specs.Widths.{input_width, three_width, hours_width}
 use Rattle.terms.specs.Side.{number_values, Ready}
 use Rattle.factors.proofs.StandsLaws.{stands_middle, stands_mul3}
-use Rattle.terms.proofs.NumberValues.{named, input, middle, side_term, hours_stands}
+use Rattle.terms.proofs.NumberValues.{named, input, middle, term_stands, hours_stands}
 use Rattle.terms.proofs.Products.{number, three_inputs, two_more, three_fit, two_more_fit}
 use Rattle.terms.proofs.pathways.Given.water_tritium_risk.Goals as goal
 
@@ -62,6 +61,6 @@ returns c =
     let wet = two_more ready ET Thousand (three_inputs ready SFo SA K c.product3-2.ensures.0) (lit≤ tt) c.product3-wet.ensures.0 in
     record {
       first = c.water_radionuclide_risk.ensures.first;
-      second = side_term ready 2 3 Risk 1 (lit≤ tt) (two_more ready EF ED breathed (lit≤ tt) c.product3-3.ensures.0);
-      third = side_term ready 2 3 Risk 2 (lit≤ tt) (two_more ready EF ED wet (lit≤ tt) c.product3-4.ensures.0);
+      second = term_stands ready _ (lit≤ tt) (two_more ready EF ED breathed (lit≤ tt) c.product3-3.ensures.0);
+      third = term_stands ready _ (lit≤ tt) (two_more ready EF ED wet (lit≤ tt) c.product3-4.ensures.0);
     }
