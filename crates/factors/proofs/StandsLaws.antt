@@ -32,7 +32,7 @@ use Rattle.decimal.proofs.Approximation.{Sized, sized_of, fair_zero, working_fai
 use Rattle.inputs.specs.declared.kind.Inhalation.{Inhalation}
 use Rattle.inputs.specs.declared.kind.Inhalation.TheVariants.{Intake}
 use Rattle.inputs.specs.declared.Scenario.{Scenario}
-use Rattle.inputs.specs.declared.Contaminant.{Contaminant}
+use Rattle.inputs.specs.declared.groups.AirToxicity.{AirToxicity}
 use Rattle.inputs.specs.Inputs.{air_decimals, toxicity_in_air}
 use Rattle.inputs.specs.Valid.{valid_of, all_valid}
 use Rattle.inputs.proofs.Tests.{and_split, valid_small}
@@ -179,11 +179,11 @@ pub stands_same : {ms ns : List Number} {es ds : List Decimal} → es ≡ ds →
 stands_same d s m = subst₂ (λ (ns : List Number) (ds : List Decimal). StandAll ns (map working_of ds)) (sym m) d s
 
 -- of U and Q, which count for nothing where inhalation is worked out by intake
-pub no_air_stands : {i : Inhalation} (r : Contaminant) → i ≡ Intake → StandAll (no_number ∷ no_number ∷ []) (map working_of (air_decimals (toxicity_in_air i r)))
+pub no_air_stands : {i : Inhalation} (x : AirToxicity Decimal) → i ≡ Intake → StandAll (no_number ∷ no_number ∷ []) (map working_of (air_decimals (toxicity_in_air i x)))
 unfolding valid_of
-no_air_stands r e =
+no_air_stands x e =
     let zero = zero_number_stands zero_of refl refl in
-    subst (λ (i : Inhalation). StandAll (no_number ∷ no_number ∷ []) (map working_of (air_decimals (toxicity_in_air i r)))) (sym e) (next zero (next zero end))
+    subst (λ (i : Inhalation). StandAll (no_number ∷ no_number ∷ []) (map working_of (air_decimals (toxicity_in_air i x)))) (sym e) (next zero (next zero end))
 
 pub all_own : {ns : List Number} {ds : List Decimal} → StandAll ns ds → Inputs ns
 all_own end = end

@@ -68,16 +68,16 @@ pub fn scenario_numbers(s: Scenario) -> Factors
 }
 
 // The toxicity in the air, where it counts: by concentration.
-fn air_numbers(r: Contaminant, inhalation: Inhalation) -> AirToxicity<Number>
-    requires { all_valid (air_decimals (toxicity_in_air inhalation r)) ≡ true }
-    ensures { StandAll (air_decimals result) (map working_of (air_decimals (toxicity_in_air inhalation r))) }
+fn air_numbers(x: AirToxicity<Decimal>, inhalation: Inhalation) -> AirToxicity<Number>
+    requires { all_valid (air_decimals (toxicity_in_air inhalation x)) ≡ true }
+    ensures { StandAll (air_decimals result) (map working_of (air_decimals (toxicity_in_air inhalation x))) }
 {
     match inhalation {
         Inhalation::Intake => AirToxicity {
             u: Number::ZERO,
             q: Number::ZERO,
         },
-        Inhalation::Concentration => numbers_of(r.in_air.into()).into(),
+        Inhalation::Concentration => numbers_of(x.into()).into(),
     }
 }
 
@@ -88,7 +88,7 @@ pub fn contaminant_numbers(r: Contaminant, inhalation: Inhalation) -> Contaminan
     ContaminantNumbers {
         toxicity: numbers_of(r.toxicity.into()).into(),
         transfer: numbers_of(r.transfer.into()).into(),
-        in_air: air_numbers(r, inhalation),
+        in_air: air_numbers(r.in_air, inhalation),
         abs: number_of(r.abs),
     }
 }

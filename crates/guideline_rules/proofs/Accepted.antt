@@ -44,8 +44,8 @@ constants_valid = refl
 
 pub inputs_valid : (s : Scenario) (r : Contaminant) → all_valid (scenario_decimals s) ≡ true → all_valid (contaminant_decimals r) ≡ true → all_valid (inputs_of s r) ≡ true
 inputs_valid s r h k =
-    let named = (contaminant_parts r k).formulas in
-    valid_append constants (scenario_decimals s ++ formula_decimals r) constants_valid (valid_append (scenario_decimals s) (formula_decimals r) h named)
+    let named = formula_decimals s.inhalation r in
+    valid_append constants (scenario_decimals s ++ named) constants_valid (valid_append (scenario_decimals s) named h ((contaminant_parts r k).formulas s.inhalation))
 
 pub values_of_lem : (dir : Direction) (s : Scenario) (medium : ℕ) (r : Contaminant) → Accepted s medium r → Represents dir (values_for dir s r) (exact_for s r)
 values_of_lem dir s medium r a = values_stand dir (inputs_of s r) (inputs_valid s r a.scenario a.contaminant)

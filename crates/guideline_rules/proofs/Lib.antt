@@ -3,6 +3,7 @@ pub mod WorkedOut
 pub mod Saturation
 pub mod Promises
 pub mod SaturatedSoil
+pub mod SameRows
 pub mod SoilOnSkin
 pub mod InRange
 pub mod MarkedFigures

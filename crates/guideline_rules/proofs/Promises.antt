@@ -89,7 +89,7 @@ pub term_bounds : (dir : Direction) (s : Scenario) (medium : ℕ) (r : Contamina
 term_bounds dir s medium r a side n =
     fair_most dir (lit≤ tt) (covers refl)
     (term_fair dir _ _ (values_of_lem dir s medium r a) {K = formula_roundings} {W = formula_range} (covers refl) (get_or (formulas_for s medium r side) n no_formula)
-    (sound_at_lem (table_sound medium r.class side) none_sound n))
+    (sound_at_lem (table_sound s.inhalation medium r.class side) none_sound n))
 
 -- ---- one side of an accepted call
 module _ (s : Scenario) (medium : ℕ) (r : Contaminant) (a : Accepted s medium r) where
@@ -108,15 +108,15 @@ module _ (s : Scenario) (medium : ℕ) (r : Contaminant) (a : Accepted s medium 
   term_there : (side : Side) (n : ℕ) → not (eqb (exact_term qs (get_or (pathways side) n no_formula)).top 0) ≡ exact_present qs (get_or (pathways side) n no_formula)
   term_there side n =
       term_present Up vs qs reps {K = formula_roundings} {W = formula_range} (covers refl) (get_or (pathways side) n no_formula)
-      (sound_at_lem (table_sound medium r.class side) none_sound n)
+      (sound_at_lem (table_sound s.inhalation medium r.class side) none_sound n)
 
   pub total_fairly : (side : Side) → Fair Up total_roundings total_range (total_of vs Up (pathways side)) (exact_total qs (pathways side))
-  total_fairly side = total_bounds Up vs qs reps (pathways side) (table_sound medium r.class side) (three_pathways medium r.class side)
+  total_fairly side = total_bounds Up vs qs reps (pathways side) (table_sound s.inhalation medium r.class side) (three_pathways s.inhalation medium r.class side)
 
   total_there : (side : Side) → not (eqb (exact_total qs (pathways side)).top 0) ≡ any_present qs (pathways side)
   total_there side =
       sym (ap not (fair_zero (total_fairly side))) ∙
-      present_total Up vs qs reps (pathways side) (table_sound medium r.class side) (three_pathways medium r.class side)
+      present_total Up vs qs reps (pathways side) (table_sound s.inhalation medium r.class side) (three_pathways s.inhalation medium r.class side)
 
   -- the targets
   pub target_bounds : (side : Side) → Approx Down 0 input_range (working_target s side) (given (target_of s side))

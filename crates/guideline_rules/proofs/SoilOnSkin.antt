@@ -1,8 +1,8 @@
 -- Soil on skin is a pathway of chemicals in soil alone: in water and of the other classes ages and ABS change nothing. A chemical in soil without ABS has
 -- the guidelines of its first two pathways, in the total too. Assumes nothing.
 use mathlib.Core.Path.{◌≡◌, refl, sym, ap, ◌∙◌}
-use mathlib.Core.Bool.{Bool, true, false, cond, ◌&&◌}
-use mathlib.Core.List.{List, [], ◌∷◌}
+use mathlib.Core.Bool.{Bool, true, false, ◌&&◌}
+use mathlib.Core.List.{List, [], ◌∷◌, ◌++◌}
 use Prim.Native.Nat.{ℕ}
 use lib.Dec.{eqb, lit<}
 use lib.ListN.{get_or, drop}
@@ -14,43 +14,24 @@ use Rattle.decimal.specs.declared.Decimal.{Decimal}
 use Rattle.decimal.specs.Decimal.{zero_of, div_of, working_of}
 use Rattle.decimal.specs.Lists.{summed}
 use Rattle.inputs.specs.declared.groups.Ages.{Ages}
+use Rattle.inputs.specs.declared.kind.Inhalation.{Inhalation}
+use Rattle.inputs.specs.declared.kind.Inhalation.TheVariants.{Intake, Concentration}
+use Rattle.inputs.specs.Inputs.{scenario_decimals, formula_decimals}
 use Rattle.inputs.specs.declared.Scenario.{Scenario}
 use Rattle.inputs.specs.declared.Contaminant.{Contaminant}
 use Rattle.inputs.specs.declared.earlier.Earlier.{Earlier}
 use Rattle.inputs.proofs.Tests.{and_split}
 use Rattle.formulas.specs.Side.{Side, Risk, Hazard}
 use Rattle.formulas.specs.Target.{working_target}
-use Rattle.formulas.specs.Formula.{Formula, Row, none, ABS, table, is_row, formulas_of, row_of, pathways_of, no_pathways, derived}
-use Rattle.formulas.specs.Term.{look, present_of, term_of, total_of, values_of, values_for, formulas_for}
+use Rattle.formulas.specs.Formula.{Formula, none, ABS, table, pathways_of, no_pathways, derived}
+use Rattle.formulas.specs.Term.{constants, look, present_of, term_of, total_of, values_of, values_for, formulas_for}
 use Rattle.formulas.proofs.Presence.{absent_term, zero_factor}
 use Rattle.guideline_rules.specs.declared.SideGuidelines.{SideGuidelines}
-use Rattle.guideline_rules.specs.Pathway.{any_pathway, has_pathway, record_refusal}
+use Rattle.guideline_rules.specs.Pathway.{has_pathway, record_refusal}
 use Rattle.guideline_rules.specs.Guideline.{side_of, calculated_of}
+use Rattle.guideline_rules.proofs.SameRows.{Same, same, Each, in_rows}
+use Rattle.guideline_rules.proofs.SameRows.Each.{end, next}
 use Rattle.guideline_rules.specs.Skin.{ChemicalInSoil, with_ages, with_abs, first_two}
-
--- ---- two lists of values give a list of formulas the same pathways, the same guidelines, and the same sum of terms in a direction
-record Same (dir : Direction) (vs ws : List Decimal) (fs : List Formula) : Type 0 where
-  present : any_pathway vs fs ≡ any_pathway ws fs
-  total : total_of vs dir fs ≡ total_of ws dir fs
-  sides : (target : Decimal) → side_of vs target fs ≡ side_of ws target fs
-
-same : {dir : Direction} {vs ws : List Decimal} {fs : List Formula} → any_pathway vs fs ≡ any_pathway ws fs → total_of vs dir fs ≡ total_of ws dir fs →
-    ((target : Decimal) → side_of vs target fs ≡ side_of ws target fs) → Same dir vs ws fs
-same p q g = record { present = p; total = q; sides = g }
-
--- so where they do for the formulas of every row, they do for those of every medium and class
-module _ (dir : Direction) (vs ws : List Decimal) where
-  data Each (side : Side) : List Row → Type 0 where
-    end : Each side []
-    next : {x : Row} {xs : List Row} → Same dir vs ws (formulas_of x side) → Each side xs → Each side (x ∷ xs)
-
-  one_of : (b : Bool) {fs gs : List Formula} → Same dir vs ws fs → Same dir vs ws gs → Same dir vs ws (cond b fs gs)
-  one_of true f g = f
-  one_of false f g = g
-
-  in_rows : (side : Side) (xs : List Row) → Same dir vs ws no_pathways → Each side xs → (medium class : ℕ) → Same dir vs ws (row_of xs medium class side)
-  in_rows side [] z end medium class = z
-  in_rows side (x ∷ xs) z (next p ps) medium class = one_of (is_row x medium class) p (in_rows side xs z ps medium class)
 
 -- ---- what is no chemical in soil
 not_chemical_in_soil : (medium : ℕ) (r : Contaminant) → (ChemicalInSoil medium r → ⊥) → eqb 1 medium && eqb 1 r.class ≡ false
@@ -62,24 +43,32 @@ not_chemical_in_soil medium r n = cases (eqb 1 medium && eqb 1 r.class) refl
 
 module _ (s : Scenario) (medium : ℕ) (r : Contaminant) (a : Ages Decimal) (d : Decimal) (n : ChemicalInSoil medium r → ⊥) where
   module _ (dir : Direction) where
-    abbrev vs : List Decimal
-    vs = values_for dir (with_ages a s) (with_abs d r)
+    -- by intake or by concentration
+    abbrev values_by : Inhalation → Scenario → Contaminant → List Decimal
+    values_by i s r = values_of dir (constants ++ (scenario_decimals s ++ formula_decimals i r))
 
-    abbrev ws : List Decimal
-    ws = values_for dir s r
+    abbrev vs : Inhalation → List Decimal
+    vs i = values_by i (with_ages a s) (with_abs d r)
 
-    other_rows : (side : Side) → Each dir vs ws side (drop 1 table)
+    abbrev ws : Inhalation → List Decimal
+    ws i = values_by i s r
+
+    other_rows : (i : Inhalation) (side : Side) → Each dir (vs i) (ws i) side (drop 1 (table i))
     unfolding table values_of derived total_of term_of present_of side_of
-    other_rows Risk = next (same refl refl (λ t. refl)) (next (same refl refl (λ t. refl)) (next (same refl refl (λ t. refl)) (next (same refl refl (λ t. refl)) end)))
-    other_rows Hazard = next (same refl refl (λ t. refl)) (next (same refl refl (λ t. refl)) (next (same refl refl (λ t. refl)) (next (same refl refl (λ t. refl)) end)))
+    other_rows Intake Risk = next (same refl refl (λ t. refl)) (next (same refl refl (λ t. refl)) (next (same refl refl (λ t. refl)) (next (same refl refl (λ t. refl)) end)))
+    other_rows Intake Hazard = next (same refl refl (λ t. refl)) (next (same refl refl (λ t. refl)) (next (same refl refl (λ t. refl)) (next (same refl refl (λ t. refl)) end)))
+    other_rows Concentration Risk = next (same refl refl (λ t. refl)) (next (same refl refl (λ t. refl)) (next (same refl refl (λ t. refl)) (next (same refl refl (λ t. refl)) end)))
+    other_rows Concentration Hazard = next (same refl refl (λ t. refl)) (next (same refl refl (λ t. refl)) (next (same refl refl (λ t. refl)) (next (same refl refl (λ t. refl)) end)))
 
-    no_row : Same dir vs ws no_pathways
+    no_row : (i : Inhalation) → Same dir (vs i) (ws i) no_pathways
     unfolding total_of term_of present_of side_of
-    no_row = same refl refl (λ t. refl)
+    no_row i = same refl refl (λ t. refl)
 
-    same_values : (side : Side) → Same dir vs ws (pathways_of medium r.class side)
+    same_values : (side : Side) → Same dir (vs s.inhalation) (ws s.inhalation) (pathways_of s.inhalation medium r.class side)
     unfolding pathways_of table
-    same_values side = rw (not_chemical_in_soil medium r n) (in_rows dir vs ws side (drop 1 table) no_row (other_rows side) medium r.class)
+    same_values side =
+        let i = s.inhalation in
+        rw (not_chemical_in_soil medium r n) (in_rows dir (vs i) (ws i) side (drop 1 (table i)) (no_row i) (other_rows i side) medium r.class)
 
   -- whether there is a pathway, the tests of a record and what is calculated do not look at the ages and at ABS, nor does a sum of terms
   pub pathway_without_skin : (side : Side) → has_pathway (with_ages a s) medium (with_abs d r) side ≡ has_pathway s medium r side
@@ -104,10 +93,10 @@ module _ (s : Scenario) (medium : ℕ) (r : Contaminant) (k : ChemicalInSoil med
   unfolding values_of derived working_of nine_of
   abs_zero dir = ap (λ (d : Decimal). eqb (working_of d).m 0) z
 
-  no_third : (dir : Direction) (side : Side) → term_of (values_for dir s r) dir (get_or (pathways_of 1 1 side) 2 none) ≡ zero_of
+  no_third : (dir : Direction) (side : Side) → term_of (values_for dir s r) dir (get_or (pathways_of s.inhalation 1 1 side) 2 none) ≡ zero_of
   unfolding pathways_of table
-  no_third dir Risk = zero_factor (values_for dir s r) dir (get_or (pathways_of 1 1 Risk) 2 none) 1 (lit< tt) (abs_zero dir)
-  no_third dir Hazard = zero_factor (values_for dir s r) dir (get_or (pathways_of 1 1 Hazard) 2 none) 0 (lit< tt) (abs_zero dir)
+  no_third dir Risk = zero_factor (values_for dir s r) dir (get_or (pathways_of s.inhalation 1 1 Risk) 2 none) 1 (lit< tt) (abs_zero dir)
+  no_third dir Hazard = zero_factor (values_for dir s r) dir (get_or (pathways_of s.inhalation 1 1 Hazard) 2 none) 0 (lit< tt) (abs_zero dir)
 
   -- three formulas of which the third has the term t: their sum in a direction, and their guidelines
   abbrev summed_with : Direction → List Formula → Decimal → Decimal
@@ -125,19 +114,19 @@ module _ (s : Scenario) (medium : ℕ) (r : Contaminant) (k : ChemicalInSoil med
   unfolding present_of
   none_zero dir = absent_term (values_for dir s r) dir none refl
 
-  left : (side : Side) → side_of (values_for Up s r) (working_target s side) (pathways_of 1 1 side) ≡ side_of (values_for Up s r) (working_target s side) (first_two (pathways_of 1 1 side))
+  left : (side : Side) → side_of (values_for Up s r) (working_target s side) (pathways_of s.inhalation 1 1 side) ≡ side_of (values_for Up s r) (working_target s side) (first_two (pathways_of s.inhalation 1 1 side))
   unfolding pathways_of table side_of total_of
-  left Risk = ap (with_third (working_target s Risk) (pathways_of 1 1 Risk)) (no_third Up Risk ∙ sym (none_zero Up))
-  left Hazard = ap (with_third (working_target s Hazard) (pathways_of 1 1 Hazard)) (no_third Up Hazard ∙ sym (none_zero Up))
+  left Risk = ap (with_third (working_target s Risk) (pathways_of s.inhalation 1 1 Risk)) (no_third Up Risk ∙ sym (none_zero Up))
+  left Hazard = ap (with_third (working_target s Hazard) (pathways_of s.inhalation 1 1 Hazard)) (no_third Up Hazard ∙ sym (none_zero Up))
 
   pub two_pathways_left : (side : Side) → calculated_of s medium r side ≡ side_of (values_for Up s r) (working_target s side) (first_two (formulas_for s medium r side))
   two_pathways_left side = rw (k.soil, k.chemical) (left side)
 
   -- and the sum of its terms, in either direction, is theirs
-  summed_left : (dir : Direction) (side : Side) → total_of (values_for dir s r) dir (pathways_of 1 1 side) ≡ total_of (values_for dir s r) dir (first_two (pathways_of 1 1 side))
+  summed_left : (dir : Direction) (side : Side) → total_of (values_for dir s r) dir (pathways_of s.inhalation 1 1 side) ≡ total_of (values_for dir s r) dir (first_two (pathways_of s.inhalation 1 1 side))
   unfolding pathways_of table total_of
-  summed_left dir Risk = ap (summed_with dir (pathways_of 1 1 Risk)) (no_third dir Risk ∙ sym (none_zero dir))
-  summed_left dir Hazard = ap (summed_with dir (pathways_of 1 1 Hazard)) (no_third dir Hazard ∙ sym (none_zero dir))
+  summed_left dir Risk = ap (summed_with dir (pathways_of s.inhalation 1 1 Risk)) (no_third dir Risk ∙ sym (none_zero dir))
+  summed_left dir Hazard = ap (summed_with dir (pathways_of s.inhalation 1 1 Hazard)) (no_third dir Hazard ∙ sym (none_zero dir))
 
   pub two_pathways_summed : (dir : Direction) (side : Side) →
       total_of (values_for dir s r) dir (formulas_for s medium r side) ≡ total_of (values_for dir s r) dir (first_two (formulas_for s medium r side))

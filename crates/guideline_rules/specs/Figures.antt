@@ -6,6 +6,7 @@ use Rattle.decimal.specs.declared.Decimal.{Decimal}
 use Rattle.decimal.specs.Decimal.{zero_of}
 use Rattle.decimal.specs.Figures.{Figure, figures, dec, ◌is◌}
 use Rattle.inputs.specs.declared.Contaminant.{Contaminant}
+use Rattle.inputs.specs.Inputs.{no_toxicity_in_air}
 use Rattle.inputs.specs.BuiltIn.{office}
 use Rattle.formulas.specs.Side.{Risk}
 use Rattle.formulas.specs.Formula.{none}
@@ -45,6 +46,7 @@ solvent saturation = record {
   transfer = record { vf = dec 19000 (pos 0); pc = zero_of };
   c = zero_of;
   saturation = saturation;
+  in_air = no_toxicity_in_air;
   abs = zero_of;
 }
 

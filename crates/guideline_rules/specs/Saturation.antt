@@ -46,7 +46,7 @@ pub record Replaced (medium : ℕ) (r : Contaminant) (calculated : SideGuideline
 -- the record without its saturation
 abbrev pub without_saturation : Contaminant → Contaminant
 without_saturation r =
-    record { class = r.class; id = r.id; toxicity = r.toxicity; transfer = r.transfer; c = r.c; saturation = zero_of; abs = r.abs }
+    record { class = r.class; id = r.id; toxicity = r.toxicity; transfer = r.transfer; c = r.c; saturation = zero_of; in_air = r.in_air; abs = r.abs }
 
 -- g and h agree but for inhalation
 pub record SameButInhalation (g h : SideGuidelines) : Type 0 where

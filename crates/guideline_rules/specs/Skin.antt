@@ -29,10 +29,19 @@ pub record SkinKnown (s : Scenario) (r : Contaminant) : Type 0 where
 
 -- the scenario with other ages, and the record with another ABS
 abbrev pub with_ages : Ages Decimal → Scenario → Scenario
-with_ages a s = record { exposure = s.exposure; contact = s.contact; targets = s.targets; house = s.house; ages = a }
+with_ages a s = record {
+  exposure = s.exposure;
+  contact = s.contact;
+  targets = s.targets;
+  house = s.house;
+  air_hours = s.air_hours;
+  ages = a;
+  inhalation = s.inhalation;
+}
 
 abbrev pub with_abs : Decimal → Contaminant → Contaminant
-with_abs d r = record { class = r.class; id = r.id; toxicity = r.toxicity; transfer = r.transfer; c = r.c; saturation = r.saturation; abs = d }
+with_abs d r =
+    record { class = r.class; id = r.id; toxicity = r.toxicity; transfer = r.transfer; c = r.c; saturation = r.saturation; in_air = r.in_air; abs = d }
 
 -- the first two pathways, and no third
 abbrev pub first_two : List Formula → List Formula

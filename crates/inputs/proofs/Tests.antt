@@ -70,7 +70,7 @@ contaminant_parts r h =
     let z = valid_parts (r.c ∷ (r.saturation ∷ [])) (drop 9 all) y.1 in
     record {
       formulas = λ i.
-          let last = air_decimals (toxicity_in_air i r) ++ (r.abs ∷ []) in
+          let last = air_decimals (toxicity_in_air i r.in_air) ++ (r.abs ∷ []) in
           valid_append (toxicity_decimals r.toxicity) (transfer_decimals r.transfer ++ last) x.0
           (valid_append (transfer_decimals r.transfer) last y.0 (in_air z.1 (valid_at all h 11) i));
       c = valid_at all h 7;
@@ -78,7 +78,7 @@ contaminant_parts r h =
     }
   where
     in_air : all_valid (air_decimals r.in_air ++ (r.abs ∷ [])) ≡ true → valid_of r.abs ≡ true → (i : Inhalation) →
-        all_valid (air_decimals (toxicity_in_air i r) ++ (r.abs ∷ [])) ≡ true
+        all_valid (air_decimals (toxicity_in_air i r.in_air) ++ (r.abs ∷ [])) ≡ true
     in_air later abs Intake = rw abs refl
     in_air later abs Concentration = later
 

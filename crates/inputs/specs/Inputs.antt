@@ -58,12 +58,12 @@ contaminant_decimals r = toxicity_decimals r.toxicity ++ (transfer_decimals r.tr
 abbrev pub no_toxicity_in_air : AirToxicity Decimal
 no_toxicity_in_air = record { u = zero_of; q = zero_of }
 
-abbrev pub toxicity_in_air : Inhalation → Contaminant → AirToxicity Decimal
-toxicity_in_air Intake r = no_toxicity_in_air
-toxicity_in_air Concentration r = r.in_air
+abbrev pub toxicity_in_air : Inhalation → AirToxicity Decimal → AirToxicity Decimal
+toxicity_in_air Intake x = no_toxicity_in_air
+toxicity_in_air Concentration x = x
 
 abbrev pub formula_decimals : Inhalation → Contaminant → List Decimal
-formula_decimals i r = toxicity_decimals r.toxicity ++ (transfer_decimals r.transfer ++ (air_decimals (toxicity_in_air i r) ++ (r.abs ∷ [])))
+formula_decimals i r = toxicity_decimals r.toxicity ++ (transfer_decimals r.transfer ++ (air_decimals (toxicity_in_air i r.in_air) ++ (r.abs ∷ [])))
 
 -- how many they are
 abbrev pub scenario_places : ℕ
