@@ -16,9 +16,7 @@ from call_frames import built_in
 from guideline_records import random_case
 from second.blocks import (CONTAMINANT_PLACES, HEADER_PLACES, between_fields, contaminant_block, field_bytes, header_block,
                            write_contaminant, write_header)
-from second.decimals import ZERO
 from second.guideline import ACCEPTED, FIELD, ROOM, guideline, refused, scenario_refusal
-from second.terms import SCENARIO_FACTORS
 from site_frames import filled
 
 GUIDELINE, HEADER, CONTAMINANT, BUILT_IN = range(1, 5)
@@ -107,8 +105,7 @@ def built_in_call(source, case, room):
     refusal, scenario = built_in(number)
     output = filled(room)
     if refusal == ACCEPTED:
-        full = {name: scenario.get(name, ZERO) for name in SCENARIO_FACTORS}
-        refusal, output = write_header(output, medium, count, full)
+        refusal, output = write_header(output, medium, count, scenario)
     return (BUILT_IN, number, medium, count, b"", b""), refusal, output
 
 

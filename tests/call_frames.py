@@ -7,8 +7,8 @@ line of a case is the number of its call and what came back.
 import struct
 from typing import NamedTuple
 
-from guideline_records import Case
-from second.blocks import HEADER, contaminant_block, header_block, word, write_contaminant, write_header
+from guideline_records import Case, full_scenario
+from second.blocks import CONTAMINANT, contaminant_block, header_block, word, write_contaminant, write_header
 from second.decimals import DOWN, UP, ZERO, add, are_operands, divide, in_range, multiply, value, working_form
 from second.guideline import SCENARIO, guideline
 from second.promises import guideline_faults, sum_faults
@@ -26,7 +26,7 @@ OPERATIONS = tuple((operation, direction) for operation in (multiply, divide, ad
 
 
 def stored_part(block):
-    return block[:HEADER_PART if word(block, 0) == HEADER else CONTAMINANT_PART]
+    return block[:CONTAMINANT_PART if word(block, 0) == CONTAMINANT else HEADER_PART]
 
 
 class Call(NamedTuple):
@@ -89,10 +89,10 @@ def contaminant_call(room, place, record):
 
 
 def built_in(number):
-    """The refusal and the scenario of a built-in number."""
+    """The refusal and the scenario of a built-in number, which counts by intake."""
     if not 1 <= number <= 3:
         return SCENARIO, {}
-    return 0, {**PERSON, **SCENARIOS[number - 1]}
+    return 0, full_scenario({**PERSON, **SCENARIOS[number - 1]})
 
 
 def built_in_call(number):

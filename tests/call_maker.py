@@ -5,7 +5,7 @@ import site_maker
 from call_frames import (AT_MOST, BUILT_IN, DECIMALS, GUIDELINE, LIST, OPERATIONS, WORKING, WRITE_CONTAMINANT, WRITE_HEADER,
                          built_in_call, contaminant_call, decimal_call, empty_call, guideline_call, header_call, list_call)
 from guideline_maker import full_case, skin_case
-from guideline_records import (HARD_NUMBERS, HOUSE_FACTORS, NOT_ON_SKIN, ON_SKIN, REQUIRED, just_below_power, random_case,
+from guideline_records import (HARD_NUMBERS, HOUSE_FACTORS, NOT_IN_AIR, ON_SKIN, REQUIRED, USUAL, just_below_power, random_case,
                                random_decimal)
 from house_sites import house_site
 from second.blocks import BLOCK, header_of, record_of
@@ -142,11 +142,11 @@ def stored_writers():
         yield header_call(512, medium, 3, case.scenario)
     for word, number in itertools.product(("class", "id"), numbers):
         yield contaminant_call(512, 120, {**case.record, word: number})
-    for place, name in enumerate(name for name in SCENARIO_FACTORS if name in NOT_ON_SKIN):
+    for place, name in enumerate(name for name in SCENARIO_FACTORS if name in USUAL):
         for d in (ZERO, FIELD_FAULTS[place % 4]):
             yield header_call(512, 1, 120, {**case.scenario, name: d})
             yield header_call(512, 1, 120, {**case.scenario, "AT": ZERO, name: d})
-    for place, name in enumerate(CONTAMINANT_VALUES):
+    for place, name in enumerate(name for name in CONTAMINANT_VALUES if name in NOT_IN_AIR):
         for fault in (ZERO, FIELD_FAULTS[place % 4], Decimal(999_999_999, -20)):
             yield contaminant_call(512, 1, {**case.record, name: fault})
     case = skin_case()

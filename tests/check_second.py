@@ -16,8 +16,8 @@ from second.decimals import DOWN, UP, ZERO, Decimal, add, divide, keeps_input_ru
 from second.guideline import guideline
 from second.promises import guideline_faults, sum_faults
 from second.sums import sums
-from second.terms import (CHEMICAL, CONTAMINANT_VALUES, RADIONUCLIDE, SCENARIO_FACTORS, SOIL, TABLE, inputs_of, rounded_factor, split,
-                          terms_of)
+from second.terms import (CHEMICAL, CONCENTRATION, CONTAMINANT_VALUES, INTAKE, RADIONUCLIDE, SCENARIO_FACTORS, SOIL, TABLE, formulas_for,
+                          inputs_of, rounded_factor, split, terms_of)
 from site_example import skin_case, tritium_case
 from site_parts import TWO_AGES
 
@@ -128,9 +128,10 @@ def extreme_cases():
     outside -999 to 999 is an error (second/steps.py).
     """
     ends = Decimal(1, -20), Decimal(999_999_999, 20)
-    for (medium, klass, _), formulas in TABLE.items():
-        for formula, (before, after), target, c in itertools.product(filter(None, formulas), (ends, ends[::-1]), ends, ends):
-            values = dict.fromkeys(SCENARIO_FACTORS + CONTAMINANT_VALUES, before)
+    for kind, (medium, klass, side) in itertools.product((INTAKE, CONCENTRATION), TABLE):
+        formulas = filter(None, formulas_for(kind, medium, klass, side))
+        for formula, (before, after), target, c in itertools.product(formulas, (ends, ends[::-1]), ends, ends):
+            values = {"kind": kind, **dict.fromkeys(SCENARIO_FACTORS + CONTAMINANT_VALUES, before)}
             values.update(dict.fromkeys([*split(formula)[1], "VF", "PEF", *HOUSE_FACTORS, "childBW", "adultBW"], after))
             values.update({"TR": target, "THI": target, "C": c})
             yield Case(medium, values, {**values, "class": klass, "id": 1})

@@ -3,7 +3,7 @@ import itertools
 import random
 
 import published
-from guideline_records import (AGES, HARD_NUMBERS, HOUSE_FACTORS, NOT_ON_SKIN, ON_SKIN, REQUIRED, Case, moved, random_case, uncapped,
+from guideline_records import (AGES, HARD_NUMBERS, HOUSE_FACTORS, ON_SKIN, REQUIRED, USUAL, Case, moved, random_case, uncapped,
                                with_carry, with_carry_on_skin)
 from second.decimals import DOWN, UP, ZERO, Decimal
 from second.terms import CHEMICAL, CONTAMINANT_VALUES, SOIL, TRITIUM, WATER, inputs_of, rounded_factor
@@ -82,15 +82,15 @@ def extreme_decimals():
     for medium, klass in DEPENDS_ON:
         case = full_case(medium, klass)
         for d in (Decimal(1, -20), Decimal(999_999_999, 20), Decimal(1, 20), Decimal(999_999_999, -20)):
-            yield case.changed(**{name: d for name in NOT_ON_SKIN})
+            yield case.changed(**{name: d for name in USUAL})
             yield case.changed(**{name: d for name in ("TR", "THI")})
-            yield case.changed(**{name: d for name in NOT_ON_SKIN if name in CONTAMINANT_VALUES})
-            yield case.changed(**{name: d for name in NOT_ON_SKIN if name not in ("TR", "THI", *CONTAMINANT_VALUES)})
+            yield case.changed(**{name: d for name in USUAL if name in CONTAMINANT_VALUES})
+            yield case.changed(**{name: d for name in USUAL if name not in ("TR", "THI", *CONTAMINANT_VALUES)})
             if (medium, klass) == (SOIL, CHEMICAL):
-                yield case.changed(**{name: d for name in NOT_ON_SKIN if name != "Csat"}, Csat=ZERO)
+                yield case.changed(**{name: d for name in USUAL if name != "Csat"}, Csat=ZERO)
         for shift in (1, 4):
             decimals = {**case.scenario, **case.record}
-            yield case.changed(**{name: same_value(decimals[name], shift) for name in NOT_ON_SKIN})
+            yield case.changed(**{name: same_value(decimals[name], shift) for name in USUAL})
 
 
 def extreme_houses():
@@ -110,7 +110,7 @@ def hard_roundings(source):
 
     There is no saturation, which would hide them.
     """
-    names = [name for name in NOT_ON_SKIN if name != "Csat"]
+    names = [name for name in USUAL if name != "Csat"]
     for medium, klass in DEPENDS_ON:
         case = full_case(medium, klass).changed(Csat=ZERO)
         for m in HARD_NUMBERS[:3]:
@@ -210,8 +210,8 @@ def extreme_on_skin():
         case = skin_case().changed(**dict.fromkeys(ON_SKIN, d))
         yield case
         yield case.changed(**dict.fromkeys(weights, under))
-        yield case.changed(**dict.fromkeys((*NOT_ON_SKIN, *ON_SKIN), d))
-        ends = {**dict.fromkeys((*NOT_ON_SKIN, *ON_SKIN), d), **dict.fromkeys((*weights, *DIVIDED_BY), under)}
+        yield case.changed(**dict.fromkeys((*USUAL, *ON_SKIN), d))
+        ends = {**dict.fromkeys((*USUAL, *ON_SKIN), d), **dict.fromkeys((*weights, *DIVIDED_BY), under)}
         yield case.changed(**{**ends, "Csat": ZERO})
         yield case.changed(**dict.fromkeys(AGES["adult"], under))
         yield skin_case().changed(**{**dict.fromkeys(AGES["child"], d), "childBW": under}, **dict.fromkeys(AGES["adult"], ZERO))
@@ -269,7 +269,7 @@ def refused_fields():
     """Refusal 4 in each decimal, in the medium, the class and the id; refusal 6 in each required factor."""
     faults = (Decimal(1_000_000_000, 0), Decimal(1, 21), Decimal(1, -21), Decimal(0, 1))
     case = full_case(1, 1)
-    for name in NOT_ON_SKIN:
+    for name in USUAL:
         for fault in faults:
             yield case.changed(**{name: fault})
     for place, name in enumerate(ON_SKIN):

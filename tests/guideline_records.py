@@ -1,22 +1,32 @@
 """Cases of the single guideline in the words of the specification, and random ones."""
 from second.decimals import ZERO, Decimal, keeps_input_rule
 from second.guideline import guideline
-from second.terms import CHEMICAL, CONTAMINANT_VALUES, RADIONUCLIDE, SCENARIO_FACTORS, SOIL, TRITIUM, WATER
+from second.terms import CHEMICAL, CONCENTRATION, CONTAMINANT_VALUES, INTAKE, RADIONUCLIDE, SCENARIO_FACTORS, SOIL, TRITIUM, WATER
 
 REQUIRED = ("EF", "ED", "BW", "AT", "TR", "THI")
 # What a scenario needs as well where the class is tritium.
 HOUSE_FACTORS = ("L", "W")
-# The decimals that soil on skin needs and no other pathway names: the four of each age, AF and ABS; and all other decimals.
+# The decimals that soil on skin needs and no other pathway names: the four of each age, AF and ABS. Those that inhalation by
+# concentration needs and no other pathway, and all others. The usual ones are in neither of the two.
 AGES = {age: tuple(age + factor for factor in ("SA", "EF", "ED", "BW")) for age in ("child", "adult")}
 ON_SKIN = (*AGES["child"], *AGES["adult"], "AF", "ABS")
-NOT_ON_SKIN = tuple(name for name in SCENARIO_FACTORS + CONTAMINANT_VALUES if name not in ON_SKIN)
+IN_AIR = ("A", "U", "Q")
+NOT_IN_AIR = tuple(name for name in SCENARIO_FACTORS + CONTAMINANT_VALUES if name not in IN_AIR)
+USUAL = tuple(name for name in NOT_IN_AIR if name not in ON_SKIN)
 # Factors whose products and quotients fall just beside a power of ten or never end.
 HARD_NUMBERS = (999_999_999, 100_000_001, 333_333_334, 100_000_000, 333_333_333, 666_666_667, 1, 3, 7)
 
-# The first two factors of a product of the terms, and of the products that stand in tritium's H alone; those of soil on skin and its G.
+# The first two factors of a product of the terms, and of the products that stand in tritium's H alone; those of soil on skin and its G;
+# and factors of inhalation by concentration that are multiplied one after the other where those between them are 1.
 MULTIPLIED_FIRST = (("SFo", "IR"), ("SFi", "IRA"), ("SFx", "ET"), ("SFo", "SA"), ("BW", "AT"), ("RfDo", "BW"))
 MULTIPLIED_IN_H = (("F", "N"), ("L", "W"))
 MULTIPLIED_ON_SKIN = (("SFo", "ABS"), ("ABS", "AF"), ("RfDo", "ED"), ("childSA", "childEF"), ("adultSA", "adultEF"))
+MULTIPLIED_IN_AIR = (("U", "A"), ("A", "EF"), ("EF", "ED"))
+
+
+def full_scenario(scenario):
+    """The scenario with its kind, by intake where none is given, and every factor, zero where it is not given."""
+    return {"kind": scenario.get("kind", INTAKE), **{name: scenario.get(name, ZERO) for name in SCENARIO_FACTORS}}
 
 
 class Case:
@@ -24,7 +34,7 @@ class Case:
 
     def __init__(self, medium, scenario, record):
         self.medium = medium
-        self.scenario = {name: scenario.get(name, ZERO) for name in SCENARIO_FACTORS}
+        self.scenario = full_scenario(scenario)
         self.record = {"class": record["class"], "id": record["id"]}
         self.record.update({name: record.get(name, ZERO) for name in CONTAMINANT_VALUES})
 
@@ -84,7 +94,7 @@ def with_carry(case, random):
     in_h = case.record["class"] == TRITIUM and random.randrange(2)
     names = random.choice(MULTIPLIED_IN_H if in_h else MULTIPLIED_FIRST)
     if random.randrange(2):
-        others = [name for name in (*SCENARIO_FACTORS, "VF", "PC") if name not in ("TR", "THI", *ON_SKIN)]
+        others = [name for name in (*SCENARIO_FACTORS, "VF", "PC") if name not in ("TR", "THI", *ON_SKIN, *IN_AIR)]
         case = case.changed(**{name: Decimal(1, 0) for name in others})
         case = case.changed(TR=Decimal(999_999_999, -8), THI=Decimal(999_999_999, -8), Csat=ZERO)
     case = case.changed(**dict(zip(names, just_below_power(random))))
@@ -99,11 +109,26 @@ def with_carry_on_skin(case, random):
     names = random.choice(MULTIPLIED_ON_SKIN)
     gone = "adult" if names[0] in AGES["child"] else "child"
     if random.randrange(2):
-        ones = [name for name in (*NOT_ON_SKIN, *ON_SKIN) if name not in ("TR", "THI", "IR", "IRA", "C", "Csat")]
+        ones = [name for name in (*USUAL, *ON_SKIN) if name not in ("TR", "THI", "IR", "IRA", "C", "Csat")]
         case = case.changed(**dict.fromkeys(ones, Decimal(1, 0)), IR=ZERO, IRA=ZERO, Csat=ZERO)
         case = case.changed(TR=Decimal(999_999_999, -8), THI=Decimal(999_999_999, -8))
     case = case.changed(**dict.fromkeys(AGES[gone], ZERO))
     return case.changed(**dict(zip(names, just_below_power(random))))
+
+
+def with_carry_in_air(case, random):
+    """The case of a chemical by concentration in which inhalation has a product that rounds up to a power of ten.
+
+    Its other factors are 1, the 0.5 of water among them, since there the first of the two is doubled. In half of them no other pathway is
+    there, so that the guideline of a side shows the carry; a saturation would hide it.
+    """
+    names = random.choice(MULTIPLIED_IN_AIR)
+    one, other = just_below_power(random)
+    ones = [name for name in (*REQUIRED, *IN_AIR, "VF") if name not in ("TR", "THI")]
+    case = case.changed(**dict.fromkeys(ones, Decimal(1, 0)), PEF=ZERO, Csat=ZERO)
+    if random.randrange(2):
+        case = case.changed(**dict.fromkeys(("IR", "SA", "AF"), ZERO), **dict.fromkeys(("TR", "THI"), Decimal(999_999_999, -8)))
+    return case.changed(**{names[0]: Decimal(one.m * (2 if case.medium == WATER else 1), one.e), names[1]: other})
 
 
 def with_saturation_near(case, random):
@@ -133,16 +158,17 @@ def random_classes(random):
     return (CHEMICAL, RADIONUCLIDE, TRITIUM) if random.randrange(12) == 0 else random.choice(apart)
 
 
-def random_valid_case(random, classes=(CHEMICAL, RADIONUCLIDE, TRITIUM), on_skin=None):
+def random_valid_case(random, classes=(CHEMICAL, RADIONUCLIDE, TRITIUM), on_skin=None, in_air=False):
     """Each value that may be zero is zero in about one case of six, the saturation in one of two.
 
     Tritium is in water, and its scenario has a house. Where it is not said whether the case is on skin, it is in two of five: in the
-    others the decimals of soil on skin are all zero.
+    others the decimals of soil on skin are all zero. In air, two of three cases are by concentration, and kind 1 has A, U and Q too;
+    otherwise the case is by intake, without them.
     """
     klass = random.choice(classes)
     needed = REQUIRED + HOUSE_FACTORS if klass == TRITIUM else REQUIRED
     on_skin = random.randrange(5) < 2 if on_skin is None else on_skin
-    absent = () if on_skin else ON_SKIN
+    absent = (() if on_skin else ON_SKIN) + (() if in_air else IN_AIR)
 
     def value(name):
         if name in absent or name not in needed and random.randrange(2 if name == "Csat" else 6) == 0:
@@ -153,6 +179,10 @@ def random_valid_case(random, classes=(CHEMICAL, RADIONUCLIDE, TRITIUM), on_skin
     record.update({"class": klass, "id": random.choice((1, 2**32 - 1, random.randint(1, 2**32 - 1)))})
     medium = WATER if klass == TRITIUM else random.choice((SOIL, WATER))
     case = Case(medium, {name: value(name) for name in SCENARIO_FACTORS}, record)
+    if in_air and random.randrange(3):
+        case = case.changed(kind=CONCENTRATION)
+        if klass == CHEMICAL and random.randrange(4) == 0:
+            return with_carry_in_air(case, random)
     if random.randrange(4) == 0:
         return (with_carry_on_skin if (medium, klass, on_skin) == (SOIL, CHEMICAL, True) else with_carry)(case, random)
     if (medium, klass) == (SOIL, CHEMICAL) and random.randrange(3) == 0:
@@ -160,13 +190,14 @@ def random_valid_case(random, classes=(CHEMICAL, RADIONUCLIDE, TRITIUM), on_skin
     return case
 
 
-def random_case(random, classes=(CHEMICAL, RADIONUCLIDE, TRITIUM), on_skin=None):
+def random_case(random, classes=(CHEMICAL, RADIONUCLIDE, TRITIUM), on_skin=None, in_air=False):
     """Most cases keep every rule; one in five breaks one to three."""
-    case = random_valid_case(random, classes, on_skin)
+    case = random_valid_case(random, classes, on_skin, in_air)
     if random.randrange(5):
         return case
     for _ in range(random.randint(1, 3)):
-        name = random.choice(SCENARIO_FACTORS + CONTAMINANT_VALUES + REQUIRED + 3 * HOUSE_FACTORS + 2 * ("medium", "class") + ("id",))
+        names = NOT_IN_AIR + REQUIRED + 3 * HOUSE_FACTORS + 2 * ("medium", "class") + ("id",)
+        name = random.choice(names + 3 * IN_AIR if in_air else names)
         if name == "medium":
             change = random.choice((0, SOIL, 3, 2**32 - 1))
         elif name == "class":

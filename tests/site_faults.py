@@ -2,10 +2,10 @@
 import struct
 from typing import Callable, NamedTuple
 
-from guideline_records import REQUIRED
-from second.blocks import (CONTAMINANT, CONTAMINANT_PLACES, HEADER, HEADER_PLACES, LAST_WORD, WORD, between_fields, with_last_word,
-                           word)
+from guideline_records import NOT_IN_AIR, REQUIRED
+from second.blocks import CONTAMINANT, CONTAMINANT_PLACES, HEADER_PLACES, LAST_WORD, WORD, between_fields, with_last_word, word
 from second.guideline import CHECK, COUNT, FACTOR, FIELD, HOUSE, KIND, ORDER, PATHWAY
+from second.terms import INTAKE
 
 # Fields that break the rule of a decimal: m, e in two's complement, the two bytes that have to be zero.
 BROKEN_FIELDS = {
@@ -40,7 +40,7 @@ UNNEEDED = {
 # Words that are no medium and no class, whatever their low bytes are.
 NO_MEDIUM = (0, 3, 257, 258, 1 + 2**16, 2 + 2**24, 1 + 2**31, WORD - 1)
 NO_CLASS = (0, 4, 257, 258, 259, 1 + 2**16, 3 + 2**16, 2 + 2**24, 1 + 2**31, 3 + 2**31, WORD - 1)
-# Bytes beside the ends of the fields of a block, and further on; each is unused in a block of which no field holds it.
+# Bytes beside the ends of the older fields of a block, and further on; each is unused in a block of which no field holds it.
 FIELD_ENDS = (88, 89, 92, 95, 100, 111, 120, 176, 177, 180, 183, 191, 199, 200, 271, 272, 300, 504, LAST_WORD - 1)
 
 
@@ -81,19 +81,20 @@ def zero_fields(places):
 
 
 def frame_faults(place, kind):
-    """Refusals 2 and 3."""
+    """Refusals 2 and 3 of a block of this kind, a header's being 1; in a header of kind 6 they are the same."""
     for more in (1, 256, 2**16, 2**31, WORD - 1):
         yield Fault(CHECK, f"last word plus {more}", add_to_words([LAST_WORD], more), True)
     # The words added bit by bit without a carry would still give zero.
     yield Fault(CHECK, "one bit set in each of two unused words", add_to_words([280, 300], 1), True)
     for wrong in sorted({0, abs(place - 1), place + 1, place + 256, place + 2**16, place + 2**31, WORD - 1} - {place}):
         yield Fault(CHECK, f"place {wrong}", put_word(4, wrong))
-    for wrong in (0, HEADER + CONTAMINANT - kind, 3, 4, kind + 256, kind + 2**16, kind + 2**31, WORD - 1):
+    for wrong in (0, INTAKE + CONTAMINANT - kind, 3, 4, kind + 256, kind + 2**16, kind + 2**31, WORD - 1):
         yield Fault(KIND, f"kind {wrong}", put_word(0, wrong))
 
 
-def field_faults(places, word_at_8, wrong_words):
-    """Refusal 4: decimals, the medium or class, unused bytes."""
+def field_faults(all_places, word_at_8, wrong_words):
+    """Refusal 4: decimals but for A, U and Q; the medium or class; bytes that are unused, or that must be zero where these three are."""
+    places = {name: at for name, at in all_places.items() if name in NOT_IN_AIR}
     for name, at in places.items():
         for fault, field in BROKEN_FIELDS.items():
             yield Fault(FIELD, f"{name} {fault}", put(at, struct.pack("<IhH", *field)))
@@ -101,7 +102,7 @@ def field_faults(places, word_at_8, wrong_words):
         yield Fault(FIELD, f"{word_at_8} {wrong}", put_word(8, wrong))
     for at in between_fields(places.values()):
         if at in FIELD_ENDS:
-            yield Fault(FIELD, f"unused byte {at} set", put(at, bytes([1 if at % 2 else 255])))
+            yield Fault(FIELD, f"byte {at} set", put(at, bytes([1 if at % 2 else 255])))
 
 
 def count_faults(count):
@@ -135,7 +136,7 @@ def house_faults(klass):
 
 
 def header_faults(count):
-    yield from frame_faults(0, HEADER)
+    yield from frame_faults(0, INTAKE)
     yield from field_faults(HEADER_PLACES, "medium", NO_MEDIUM)
     yield from count_faults(count)
     yield from factor_faults()

@@ -9,7 +9,7 @@ name begins with its family. Where the maker knows what has to be sent back the 
 import itertools
 import random
 
-from guideline_records import (HARD_NUMBERS, HOUSE_FACTORS, NOT_ON_SKIN, ON_SKIN, Case, random_classes, random_decimal,
+from guideline_records import (HARD_NUMBERS, HOUSE_FACTORS, ON_SKIN, USUAL, Case, random_classes, random_decimal,
                                random_valid_case, with_carry)
 from house_sites import missing_house, mixed_classes, mixed_in_many, tritium_in_soil, without_house
 from saturation_sites import absent_inhalation, capped_sides, exact_saturations, ignored_saturation, near_saturation
@@ -33,7 +33,7 @@ HEADER_END, CONTAMINANT_END = (max(places.values()) + 8 for places in (HEADER_PL
 
 def missing_values(source):
     """Every combination of missing toxicity values for each medium and class, alone or after a sound record."""
-    names = [name for name in CONTAMINANT_VALUES if name not in ("C", "Csat", "ABS")]
+    names = [name for name in CONTAMINANT_VALUES if name in USUAL and name not in ("C", "Csat")]
     for (medium, klass), known in shuffled(source, itertools.product(KINDS, itertools.product((True, False), repeat=7))):
         site = full_site(source, source.choice((1, 1, 2)), medium, klass)
         site.records[-1].update({name: ZERO for name, is_known in zip(names, known) if not is_known})
@@ -57,10 +57,10 @@ def missing_factors(source):
 
 def extreme_decimals(source):
     """The least and greatest inputs, in one place and in many, and values written with trailing zeros: soil on skin stays as it is."""
-    groups = [(name,) for name in NOT_ON_SKIN]
-    values = tuple(name for name in NOT_ON_SKIN if name in CONTAMINANT_VALUES)
-    others = tuple(name for name in NOT_ON_SKIN if name not in ("TR", "THI", *CONTAMINANT_VALUES))
-    groups += [NOT_ON_SKIN, ("TR", "THI"), values, others, ("F", "N", "S", "V"), HOUSE_FACTORS]
+    groups = [(name,) for name in USUAL]
+    values = tuple(name for name in USUAL if name in CONTAMINANT_VALUES)
+    others = tuple(name for name in USUAL if name not in ("TR", "THI", *CONTAMINANT_VALUES))
+    groups += [USUAL, ("TR", "THI"), values, others, ("F", "N", "S", "V"), HOUSE_FACTORS]
     extremes = [Decimal(1, -20), Decimal(1, 20), Decimal(999_999_999, -20), Decimal(999_999_999, 20), Decimal(1000, -3)]
     for names, d in shuffled(source, itertools.product(groups, extremes)):
         site = with_decimals(full_site(source, source.choice((1, 2))), {name: d for name in names})
@@ -68,7 +68,7 @@ def extreme_decimals(source):
         yield lent(source, f"extreme decimals: {what} {d.m}e{d.e}; accepted", site.content())
     while True:
         site = full_site(source, source.choice((1, 2, 3)))
-        names = source.sample(NOT_ON_SKIN, source.randint(2, len(NOT_ON_SKIN)))
+        names = source.sample(USUAL, source.randint(2, len(USUAL)))
         with_decimals(site, {name: source.choice(extremes) for name in names})
         yield lent(source, f"extreme decimals: any, {len(names)}; accepted", site.content())
 
@@ -97,7 +97,7 @@ def near_concentration(source):
 
 def exact_targets(source):
     """Terms that are exactly 1, so that the sum is the sum of the concentrations: on the target and beside it."""
-    ones = {name: ONE for name in NOT_ON_SKIN}
+    ones = {name: ONE for name in USUAL}
     lists = [[(100_000_000, -8)], [(999_999_999, -9)], [(1, 0)], [(1000, -3)], [(5, -1), (5, -1)], [(1, -1)] * 10,
              [(1, 0), (5, -9), (5, -9)], [(1, 0), (1, -20)], [(999_999_999, -9), (1, -9)],
              [(999_999_998, -9), (15, -10), (5, -10)]]
@@ -115,7 +115,7 @@ def hard_roundings(source):
     The saturation is no factor: it stays as it is; so does what soil on skin needs where the site has none.
     """
     def hard_names(site):
-        return [name for name in (*NOT_ON_SKIN, *(ON_SKIN if site.scenario["AF"] != ZERO else ())) if name != "Csat"]
+        return [name for name in (*USUAL, *(ON_SKIN if site.scenario["AF"] != ZERO else ())) if name != "Csat"]
 
     for m, kind in shuffled(source, itertools.product((999_999_999, 100_000_001, 333_333_334), KINDS)):
         site = full_site(source, 1, *kind)

@@ -1,7 +1,7 @@
 """The parts from which test sites are made: scenarios, records, and a site before and after it is bytes."""
 import random
 
-from guideline_records import Case
+from guideline_records import USUAL, Case, full_scenario
 from second.blocks import WORD, contaminant_block, header_block
 from second.decimals import ZERO, Decimal
 from second.guideline import has_any_pathway
@@ -51,7 +51,7 @@ class Site:
 
     def __init__(self, medium, scenario, records):
         self.medium = medium
-        self.scenario = {name: scenario.get(name, ZERO) for name in SCENARIO_FACTORS}
+        self.scenario = full_scenario(scenario)
         self.records = [Case(medium, {}, record).record for record in records]
 
     def blocks(self):
@@ -101,8 +101,8 @@ def some_ids(source, count):
 
 
 def full_record(source, klass, number):
-    """A record in which every value is known and plausible, but for ABS, and the saturation, which about half of them have."""
-    values = {name: plausible(source, *PLAUSIBLE[klass][name]) for name in CONTAMINANT_VALUES if name != "ABS"}
+    """A record in which every usual value is known and plausible, but for the saturation, which about half of them have."""
+    values = {name: plausible(source, *PLAUSIBLE[klass][name]) for name in CONTAMINANT_VALUES if name in USUAL}
     if source.randrange(2):
         values["Csat"] = ZERO
     return {"class": klass, "id": number, **values}
@@ -119,7 +119,7 @@ def with_skin(source, site):
 
 def at_times_with_skin(site):
     """The site, of five two with soil on skin. These are drawn from a source of their own: the other three stay what they were."""
-    source = random.Random(repr(site.records))
+    source = random.Random(repr([{name: part for name, part in record.items() if name not in ("U", "Q")} for record in site.records]))
     return with_skin(source, site) if source.randrange(5) < 2 else site
 
 
@@ -149,8 +149,8 @@ def plausible_site(source, count):
     for number in some_ids(source, count):
         record = None
         while record is None or not has_any_pathway(medium, record, inputs_of(Site(medium, scenario, []).scenario, record)):
-            record = {"ABS": ZERO, **full_record(source, source.choice(classes), number)}
-            record.update({name: ZERO for name in CONTAMINANT_VALUES if name != "ABS" and source.randrange(5) == 0})
+            record = Case(medium, {}, full_record(source, source.choice(classes), number)).record
+            record.update({name: ZERO for name in CONTAMINANT_VALUES if name in USUAL and source.randrange(5) == 0})
         records.append(record)
     return at_times_with_skin(Site(medium, scenario, records))
 

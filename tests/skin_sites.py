@@ -3,7 +3,7 @@ G, sums close to the target with its term, a saturation beside it, and its decim
 import itertools
 
 from guideline_maker import hard_ages
-from guideline_records import AGES, NOT_ON_SKIN, ON_SKIN
+from guideline_records import AGES, ON_SKIN, USUAL
 from second.decimals import ZERO, Decimal, keeps_input_rule, value
 from second.guideline import FIELD, PATHWAY, guideline
 from second.terms import CHEMICAL, CONTAMINANT_VALUES, RADIONUCLIDE, SCENARIO_FACTORS, SIDES, SOIL
@@ -128,13 +128,13 @@ def ignored_on_skin(source):
 def extreme_on_skin(source):
     """The least and greatest inputs, and one with trailing zeros: in one decimal of soil on skin, in one age, in all, everywhere."""
     extremes = [Decimal(1, -20), Decimal(1, 20), Decimal(999_999_999, -20), Decimal(999_999_999, 20), Decimal(1000, -3)]
-    groups = [(name,) for name in ON_SKIN] + [*AGES.values(), tuple(ON_SKIN), (*NOT_ON_SKIN, *ON_SKIN), (*ON_SKIN, "SFo", "RfDo")]
+    groups = [(name,) for name in ON_SKIN] + [*AGES.values(), tuple(ON_SKIN), (*USUAL, *ON_SKIN), (*ON_SKIN, "SFo", "RfDo")]
     for names, d in shuffled(source, itertools.product(groups, extremes)):
         site = with_decimals(skin_site(source, source.choice((1, 2))), dict.fromkeys(names, d))
         what = names[0] if len(names) == 1 else f"{len(names)} decimals"
         yield lent(source, f"extreme on skin: {what} {d.m}e{d.e}; accepted", site.content())
     while True:
         site = skin_site(source, source.choice((1, 2)))
-        names = source.sample((*NOT_ON_SKIN, *ON_SKIN), source.randint(2, 30)) + source.sample(ON_SKIN, 4)
+        names = source.sample((*USUAL, *ON_SKIN), source.randint(2, 30)) + source.sample(ON_SKIN, 4)
         with_decimals(site, {name: source.choice(extremes) for name in names})
         yield lent(source, f"extreme on skin: any, {len(names)}; accepted", site.content())

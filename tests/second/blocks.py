@@ -3,17 +3,19 @@ import struct
 
 from .decimals import Decimal
 from .guideline import ACCEPTED, CHECK, COUNT, FACTOR, FIELD, KIND, ROOM, keeps_record_rule, scenario_refusal
-from .terms import CONTAMINANT_VALUES, SCENARIO_FACTORS
+from .terms import CONCENTRATION, CONTAMINANT_VALUES, INTAKE, SCENARIO_FACTORS
 
 BLOCK = 512
 LAST_WORD = 508
 FIELDS = 16  # where the decimal fields begin
-HEADER, CONTAMINANT, RESULT, SUMMARY = 1, 2, 3, 4
+# A header has the kind of its scenario.
+HEADERS = (INTAKE, CONCENTRATION)
+CONTAMINANT, RESULT, SUMMARY = 2, 3, 4
 WORD = 2**32
 
 # The byte at which each decimal of a header and of a contaminant stands, by its name; those of a result and of a summary, in order.
-HEADER_PLACES = dict(zip(SCENARIO_FACTORS, (*range(16, 176, 8), *range(200, 272, 8)), strict=True))
-CONTAMINANT_PLACES = dict(zip(CONTAMINANT_VALUES, (*range(16, 88, 8), 112), strict=True))
+HEADER_PLACES = dict(zip(SCENARIO_FACTORS, (*range(16, 176, 8), *range(192, 272, 8)), strict=True))
+CONTAMINANT_PLACES = dict(zip(CONTAMINANT_VALUES, (*range(16, 88, 8), 96, 104, 112), strict=True))
 RESULT_PLACES = range(16, 80, 8)
 SUMMARY_PLACES = range(16, 48, 8)
 
@@ -72,7 +74,7 @@ def made(words, fields):
 
 
 def header_block(medium, count, scenario):
-    return made([(0, HEADER), (8, medium), (12, count)], [(at, scenario[name]) for name, at in HEADER_PLACES.items()])
+    return made([(0, scenario["kind"]), (8, medium), (12, count)], [(at, scenario[name]) for name, at in HEADER_PLACES.items()])
 
 
 def contaminant_block(place, record):
@@ -92,8 +94,9 @@ def summary_block(sums, verdicts):
 
 
 def header_of(block):
-    """Medium, count and scenario, as they stand in the bytes."""
-    return word(block, 8), word(block, 12), {name: field_of(block, at) for name, at in HEADER_PLACES.items()}
+    """Medium, count and scenario, as they stand in the bytes; the scenario of a block that is no header counts by intake."""
+    kind = CONCENTRATION if word(block, 0) == CONCENTRATION else INTAKE
+    return word(block, 8), word(block, 12), {"kind": kind, **{name: field_of(block, at) for name, at in HEADER_PLACES.items()}}
 
 
 def record_of(block):
@@ -107,17 +110,17 @@ def first(conditions):
     return next((number for number, holds in conditions if holds), ACCEPTED)
 
 
-def frame_conditions(block, place, kind):
-    """Refusals 2 and 3: the check and the kind of a block at this place."""
+def frame_conditions(block, place, kinds):
+    """Refusals 2 and 3: the check and the kind of a block at this place, which may have these kinds."""
     yield CHECK, words_total(block) != 0 or word(block, 4) != place
-    yield KIND, word(block, 0) != kind
+    yield KIND, word(block, 0) not in kinds
 
 
 def header_conditions(block, blocks):
     """Refusals 2 to 6 of the header, in a site of this many blocks."""
     medium, count, scenario = header_of(block)
     number = scenario_refusal(scenario, medium)
-    yield from frame_conditions(block, 0, HEADER)
+    yield from frame_conditions(block, 0, HEADERS)
     yield FIELD, not are_zero(block, HEADER_UNUSED) or number == FIELD
     yield COUNT, count != blocks - 1
     yield FACTOR, number == FACTOR
@@ -125,7 +128,7 @@ def header_conditions(block, blocks):
 
 def contaminant_conditions(block, place):
     """Refusals 2, 3 and 4 of a contaminant block; the later ones look at more than this block."""
-    yield from frame_conditions(block, place, CONTAMINANT)
+    yield from frame_conditions(block, place, (CONTAMINANT,))
     yield FIELD, not are_zero(block, CONTAMINANT_UNUSED) or not keeps_record_rule(record_of(block))
 
 

@@ -7,7 +7,7 @@ from fractions import Fraction
 from .decimals import value
 from .guideline import TARGET
 from .sums import ABOVE, NONE, UNDECIDED, WITHIN
-from .terms import CHEMICAL, SIDES, SOIL, TABLE, exact_term, exact_term_sum, has_pathway, inputs_of
+from .terms import CHEMICAL, SIDES, SOIL, exact_term, exact_term_sum, formulas_for, has_pathway, inputs_of
 
 GUIDELINE_DISTANCE = Fraction(2, 10_000_000)
 SUM_DISTANCE = Fraction(2, 1_000_000)
@@ -28,7 +28,7 @@ def column_faults(scenario, medium, record, answer):
     faults = []
     for number, side in enumerate(SIDES):
         target = value(scenario[TARGET[side]])
-        for column, formula in enumerate(TABLE[medium, record["class"], side]):
+        for column, formula in enumerate(formulas_for(scenario["kind"], medium, record["class"], side)):
             found, term = value(answer.guidelines[4 * number + column]), exact_term(formula, inputs)
             what = f"{side}: guideline of pathway {column + 1}"
             if (found > 0) != (term > 0):

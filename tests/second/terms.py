@@ -1,4 +1,5 @@
 """The terms of each pathway, rounded and exact (docs/SPECIFICATION.md, "Terms")."""
+import functools
 from fractions import Fraction
 
 from .decimals import OPPOSITE, ZERO, Decimal, value
@@ -8,11 +9,13 @@ SOIL, WATER = 1, 2
 CHEMICAL, RADIONUCLIDE, TRITIUM = 1, 2, 3
 RISK, HAZARD = "risk", "hazard"
 SIDES = (RISK, HAZARD)
+# The two kinds of a scenario, by the number of its header's kind: the inhalation of a chemical is counted by intake, or by concentration.
+INTAKE, CONCENTRATION = 1, 6
 
 SCENARIO_FACTORS = ("EF", "ED", "BW", "AT", "IR", "IRA", "PEF", "ET", "RF", "SA", "TR", "THI",
-                    "M", "F", "N", "S", "V", "L", "W", "K",
+                    "M", "F", "N", "S", "V", "L", "W", "K", "A",
                     "childSA", "childEF", "childED", "childBW", "adultSA", "adultEF", "adultED", "adultBW", "AF")
-CONTAMINANT_VALUES = ("SFo", "SFi", "SFx", "RfDo", "RfDi", "VF", "PC", "C", "Csat", "ABS")
+CONTAMINANT_VALUES = ("SFo", "SFi", "SFx", "RfDo", "RfDi", "VF", "PC", "C", "Csat", "U", "Q", "ABS")
 
 CONSTANTS = {
     "1": Decimal(1, 0),
@@ -22,6 +25,7 @@ CONSTANTS = {
     "0.000114": Decimal(114, -6),
     "365": Decimal(365, 0),
     "10^3": Decimal(1, 3),
+    "24": Decimal(24, 0),
 }
 
 # The factors that are worked out, each by its parts, which are formulas too: B = 1/VF + 1/PEF, H = ET + (F, N, S, V / L, W), and
@@ -32,16 +36,27 @@ WORKED_OUT = {
     "G": ("childSA, childEF, childED / childBW", "adultSA, adultEF, adultED / adultBW"),
 }
 
-# The formulas as the specification prints them, by medium, class and side, in the order of the pathways; None: no such pathway.
+# The inhalation of a chemical by the kind of the scenario and by side. AIR stands for its share of the air, which goes by the medium.
+INHALATION = {
+    (INTAKE, RISK): "SFi, IRA, AIR, EF, ED / BW, AT, 365",
+    (INTAKE, HAZARD): "IRA, AIR, EF / RfDi, BW, 365",
+    (CONCENTRATION, RISK): "U, 10^3, AIR, A, EF, ED / AT, 365, 24",
+    (CONCENTRATION, HAZARD): "AIR, A, EF / Q, 365, 24",
+}
+AIR = {SOIL: "B", WATER: "0.5"}
+BY_KIND = "by kind"
+
+# The formulas as the specification prints them, by medium, class and side, in the order of the pathways; None: no such pathway; BY_KIND:
+# the inhalation above.
 TABLE = {
     (SOIL, CHEMICAL, RISK): (
         "SFo, IR, 10^-6, EF, ED / BW, AT, 365",
-        "SFi, IRA, B, EF, ED / BW, AT, 365",
+        BY_KIND,
         "SFo, ABS, AF, 10^-6, G / AT, 365",
     ),
     (SOIL, CHEMICAL, HAZARD): (
         "IR, 10^-6, EF / RfDo, BW, 365",
-        "IRA, B, EF / RfDi, BW, 365",
+        BY_KIND,
         "ABS, AF, 10^-6, G / RfDo, ED, 365",
     ),
     (SOIL, RADIONUCLIDE, RISK): (
@@ -52,12 +67,12 @@ TABLE = {
     (SOIL, RADIONUCLIDE, HAZARD): (None, None, None),
     (WATER, CHEMICAL, RISK): (
         "SFo, IR, EF, ED / BW, AT, 365",
-        "SFi, IRA, 0.5, EF, ED / BW, AT, 365",
+        BY_KIND,
         "SFo, SA, PC, ET, 10^-3, EF, ED / BW, AT, 365",
     ),
     (WATER, CHEMICAL, HAZARD): (
         "IR, EF / RfDo, BW, 365",
-        "IRA, 0.5, EF / RfDi, BW, 365",
+        BY_KIND,
         "SA, PC, ET, 10^-3, EF / RfDo, BW, 365",
     ),
     (WATER, RADIONUCLIDE, RISK): (
@@ -77,6 +92,13 @@ TABLE = {
 }
 
 
+@functools.cache
+def formulas_for(kind, medium, klass, side):
+    """The formulas of the three pathways in a scenario of this kind."""
+    inhaled = INHALATION[kind, side].replace("AIR", AIR[medium])
+    return tuple(inhaled if formula == BY_KIND else formula for formula in TABLE[medium, klass, side])
+
+
 def split(formula):
     """The names before the stroke and those after it."""
     before, _, after = formula.partition("/")
@@ -84,7 +106,7 @@ def split(formula):
 
 
 def inputs_of(scenario, record):
-    """Every factor by its name, as given, but for those that are worked out."""
+    """The scenario's kind, and every factor by its name, as given, but for those that are worked out."""
     return {**CONSTANTS, **scenario, **{name: record[name] for name in CONTAMINANT_VALUES}}
 
 
@@ -132,7 +154,7 @@ def term(formula, inputs, direction):
 
 
 def terms_of(medium, klass, side, inputs, direction):
-    return [term(formula, inputs, direction) for formula in TABLE[medium, klass, side]]
+    return [term(formula, inputs, direction) for formula in formulas_for(inputs["kind"], medium, klass, side)]
 
 
 def term_sum(terms, direction):
@@ -145,7 +167,7 @@ def term_sum(terms, direction):
 
 
 def has_pathway(medium, klass, side, inputs):
-    return any(is_present(formula, inputs) for formula in TABLE[medium, klass, side])
+    return any(is_present(formula, inputs) for formula in formulas_for(inputs["kind"], medium, klass, side))
 
 
 def exact_factor(name, inputs):
@@ -168,4 +190,4 @@ def exact_term(formula, inputs):
 
 
 def exact_term_sum(medium, klass, side, inputs):
-    return sum((exact_term(formula, inputs) for formula in TABLE[medium, klass, side]), Fraction(0))
+    return sum((exact_term(formula, inputs) for formula in formulas_for(inputs["kind"], medium, klass, side)), Fraction(0))
