@@ -1,5 +1,5 @@
-"""Checks the second calculation itself: the figures that the specification marks, the least and greatest inputs, and on random lists
-demand 3 and the bounds of each pathway's guideline.
+"""Checks the second calculation itself: the figures that the specification marks, the least and greatest inputs, and on random lists of
+both kinds demand 3 and the bounds of each pathway's guideline.
 
     python3 tests/check_second.py 300 1        300 lists from seed 1
 
@@ -10,16 +10,16 @@ import itertools
 import random
 import sys
 
-from guideline_records import AGES, HOUSE_FACTORS, Case, random_case, random_classes, random_decimal, random_valid_case
+from guideline_records import AGES, HOUSE_FACTORS, Case, answer_of, random_case, random_classes, random_decimal, random_valid_case
 from second import steps
 from second.decimals import DOWN, UP, ZERO, Decimal, add, divide, keeps_input_rule, multiply, working_form
-from second.guideline import guideline
+from second.guideline import PATHWAY, guideline
 from second.promises import guideline_faults, sum_faults
 from second.sums import sums
-from second.terms import (CHEMICAL, CONCENTRATION, CONTAMINANT_VALUES, INTAKE, RADIONUCLIDE, SCENARIO_FACTORS, SOIL, TABLE, formulas_for,
-                          inputs_of, rounded_factor, split, terms_of)
-from site_example import skin_case, tritium_case
-from site_parts import TWO_AGES
+from second.terms import (CHEMICAL, CONCENTRATION, CONTAMINANT_VALUES, INTAKE, RADIONUCLIDE, SCENARIO_FACTORS, SIDES, SOIL, TABLE, WATER,
+                          formulas_for, inputs_of, rounded_factor, split, terms_of)
+from site_example import concentration_case, skin_case, tritium_case
+from site_parts import MEDIA, TWO_AGES
 
 OFFICE_WORKER = {
     "EF": Decimal(250, 0), "ED": Decimal(25, 0), "BW": Decimal(70, 0), "AT": Decimal(70, 0), "IR": Decimal(50, 0),
@@ -101,6 +101,30 @@ def ages_figures(inputs):
     yield "G down, 004", rounded_factor("G", {**inputs, **TWO_AGES}, DOWN), (991607142, -3)
 
 
+# By concentration, in soil and in water: the guideline of inhalation and its upper term, then the two sums, of risk and of hazard.
+IN_MEDIA = {
+    SOIL: ((((298737133, -7), (334742450, -16)), ((669484892, -16), (669484900, -16))),
+           (((249658889, -5), (400546523, -12)), ((801093036, -12), (801093046, -12)))),
+    WATER: ((((314461538, -11), (318003914, -12)), ((636007826, -12), (636007828, -12))),
+            (((262799999, -9), (380517504, -8)), ((761035006, -8), (761035008, -8)))),
+}
+
+
+def concentration_figures():
+    """Office worker of kind 6 with A 8, in soil and in water; a chemical with U 7.8 x 10^-6, Q 0.03, VF 19000 and C 2."""
+    for medium, by_side in IN_MEDIA.items():
+        case, what = concentration_case(medium), f"by concentration, {MEDIA[medium]}"
+        inputs = inputs_of(case.scenario, case.record)
+        answer, total = guideline(case.scenario, medium, case.record), sums(case.scenario, medium, [case.record])
+        for place, (side, ((found, term), both_sums)) in enumerate(zip(SIDES, by_side)):
+            yield f"{what}: {side} guidelines", answer.guidelines[4 * place:4 * place + 4], (ZERO, found, ZERO, found)
+            yield f"{what}: {side} upper terms", terms_of(medium, CHEMICAL, side, inputs, UP), [ZERO, term, ZERO]
+            yield f"{what}: {side} sums", total.sums[2 * place:2 * place + 2], both_sums
+        yield f"{what}: verdicts", total.verdicts, (1, 1) if medium == SOIL else (2, 2)
+        for names, changes in (("kind 1", {"kind": INTAKE}), ("A zero", {"A": ZERO}), ("U, Q zero", {"U": ZERO, "Q": ZERO})):
+            yield f"{what}: {names}, no pathway", answer_of(case.changed(**changes)).refusal, PATHWAY
+
+
 def marked_figures():
     """(name, computed, printed in the specification)"""
     one, two, three, seven = (working_form(Decimal(n, 0)) for n in (1, 2, 3, 7))
@@ -119,6 +143,7 @@ def marked_figures():
     yield from tritium_figures()
     yield from saturation_figures()
     yield from skin_figures()
+    yield from concentration_figures()
 
 
 def extreme_cases():
@@ -160,15 +185,16 @@ def extreme_wrong():
 def random_list(source):
     """A case whose scenario and medium all records share, and 1 to 120 records in the order of their ids.
 
-    In half of the lists SFo and IR are known, so that each record has a pathway. A quarter of them are in soil and on skin.
+    In half of the lists SFo and IR are known, so that each record has a pathway. A quarter of them are in soil and on skin; half of them
+    have A, U and Q, and of these two of three are by concentration.
     """
-    on_skin = source.randrange(4) == 1
+    on_skin, in_air = source.randrange(4) == 1, source.randrange(2) == 0
     classes = (RADIONUCLIDE, CHEMICAL) if on_skin else random_classes(source)
-    first = random_valid_case(source, classes[-1:], on_skin)
+    first = random_valid_case(source, classes[-1:], on_skin, in_air)
     first.medium = SOIL if on_skin else first.medium
     count = source.choice((1, 1, 2, 3, 10, 120))
     makers = [random_case if source.randrange(40) == 0 else random_valid_case for _ in range(count)]
-    records = [make(source, classes, on_skin).record for make in makers]
+    records = [make(source, classes, on_skin, in_air).record for make in makers]
     if source.randrange(2):
         first.scenario["IR"] = random_decimal(source)
         records = [{**record, "SFo": random_decimal(source)} for record in records]
@@ -206,10 +232,11 @@ def main():
     wrong += len(faults)
     print("\n".join(faults) or "least and greatest inputs: every e on the way from -999 to 999")
     source = random.Random(int(sys.argv[2]))
-    refusals, verdicts = collections.Counter(), collections.Counter()
+    kinds, refusals, verdicts = collections.Counter(), collections.Counter(), collections.Counter()
     for _ in range(int(sys.argv[1])):
         case, records = random_list(source)
         answer = sums(case.scenario, case.medium, records)
+        kinds[case.scenario["kind"]] += 1
         refusals[answer.refusal] += 1
         if answer.refusal == 0:
             verdicts.update(answer.verdicts)
@@ -217,7 +244,8 @@ def main():
             wrong += bool(faults)
             for fault in faults:
                 print(f"{fault}: {case.medium} {case.scenario} {records}")
-    print(f"lists by refusal: {dict(sorted(refusals.items()))}; sides by verdict: {dict(sorted(verdicts.items()))}")
+    print(f"lists by kind: {dict(sorted(kinds.items()))}; by refusal: {dict(sorted(refusals.items()))}; "
+          f"sides by verdict: {dict(sorted(verdicts.items()))}")
     print(f"{wrong} wrong")
     return 1 if wrong else 0
 

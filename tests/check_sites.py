@@ -22,11 +22,12 @@ from second.promises import guideline_faults, sum_faults
 from second.sites import site
 from second.sums import sums
 from second.terms import CHEMICAL, CONTAMINANT_VALUES, SCENARIO_FACTORS
-from site_example import (EXAMPLE_TEXT, SKIN_TEXT, TRITIUM_TEXT, example_case, example_site, skin_case, skin_site, tritium_case,
-                          tritium_site)
+from site_example import (CONCENTRATION_TEXTS, EXAMPLE_TEXT, SKIN_TEXT, TRITIUM_TEXT, concentration_case, concentration_site, example_case,
+                          example_site, skin_case, skin_site, tritium_case, tritium_site)
 from site_frames import filled
 from site_maker import sites
 from site_naming import family_of, planned
+from site_parts import MEDIA
 
 # Kind, place, two words, the decimals as m, e and two zero bytes, (the verdicts,) unused bytes, the last word.
 RESULT_FORM = "<4I" + "IhH" * 8 + "428sI"
@@ -160,7 +161,7 @@ def writers_wrong():
     for what, out, answer, number in itertools.chain(header_writings(), contaminant_writings()):
         if answer != (number, out):
             yield what
-    for case, length in itertools.product((example_case(), tritium_case(), skin_case()), (512, 513, 1024)):
+    for case, length in itertools.product((example_case(), tritium_case(), skin_case(), concentration_case()), (512, 513, 1024)):
         out = filled(length)
         if write_header(out, 2, 120, case.scenario) != (ACCEPTED, header_block(2, 120, case.scenario) + out[BLOCK:]):
             yield f"header in {length} bytes"
@@ -171,8 +172,11 @@ def writers_wrong():
 def example_wrong():
     """The text that the specification prints for its examples, and the lengths that it names."""
     example = example_site()
-    for what, given, text in (("example", example, EXAMPLE_TEXT), ("example of tritium", tritium_site(), TRITIUM_TEXT),
-                              ("example of soil on skin", skin_site(), SKIN_TEXT)):
+    examples = [("example", example, EXAMPLE_TEXT), ("example of tritium", tritium_site(), TRITIUM_TEXT),
+                ("example of soil on skin", skin_site(), SKIN_TEXT)]
+    examples += [(f"example by concentration in {MEDIA[medium]}", concentration_site(medium), text)
+                 for medium, text in CONCENTRATION_TEXTS.items()]
+    for what, given, text in examples:
         if listing(given) != text:
             yield f"the {what} prints\n{listing(given)}"
     for given, text in ((example[:1023], f"refused {LENGTH} block 0\n"), (example + bytes(BLOCK), "refused 5 block 0\n")):

@@ -2,7 +2,7 @@
 from guideline_records import Case
 from second.blocks import BLOCK, write_contaminant, write_header
 from second.decimals import Decimal
-from second.terms import SOIL, TRITIUM, WATER
+from second.terms import CONCENTRATION, SOIL, TRITIUM, WATER
 from site_parts import PERSON, SCENARIOS, WITH_HOUSE
 
 EXAMPLE_TEXT = """\
@@ -22,6 +22,21 @@ SKIN_TEXT = """\
 sum risk 0 0 within
 sum hazard 0 0 within
 """
+# By concentration, in soil and in water.
+CONCENTRATION_TEXTS = {
+    SOIL: """\
+1 risk - 2.98737133E+1 - 2.98737133E+1
+1 hazard - 2.49658889E+3 - 2.49658889E+3
+sum risk 6.69484892E-8 6.69484900E-8 within
+sum hazard 8.01093036E-4 8.01093046E-4 within
+""",
+    WATER: """\
+1 risk - 3.14461538E-3 - 3.14461538E-3
+1 hazard - 2.62799999E-1 - 2.62799999E-1
+sum risk 6.36007826E-4 6.36007828E-4 above
+sum hazard 7.61035006E+0 7.61035008E+0 above
+""",
+}
 
 
 def example_case():
@@ -46,6 +61,12 @@ def skin_case():
     return Case(SOIL, {**PERSON, **SCENARIOS[0], **ages}, record)
 
 
+def concentration_case(medium=SOIL):
+    """Scenario 1 of kind 6 with A 8; one chemical, id 1, U 7.8 x 10^-6, Q 0.03, VF 19000, C 2, others zero."""
+    record = {"class": 1, "id": 1, "U": Decimal(78, -7), "Q": Decimal(3, -2), "VF": Decimal(19, 3), "C": Decimal(2, 0)}
+    return Case(medium, {**PERSON, **SCENARIOS[0], "kind": CONCENTRATION, "A": Decimal(8, 0)}, record)
+
+
 def site_of(case):
     header = write_header(bytes(BLOCK), case.medium, 1, case.scenario)
     contaminant = write_contaminant(bytes(BLOCK), 1, case.record)
@@ -63,3 +84,7 @@ def tritium_site():
 
 def skin_site():
     return site_of(skin_case())
+
+
+def concentration_site(medium):
+    return site_of(concentration_case(medium))
