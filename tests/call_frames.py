@@ -1,8 +1,9 @@
 """The cases that the program call_cases reads, and the lines that it must print, by the second calculation.
 
 A case is three little-endian words, the call, its argument and a count, and the first bytes of each block that the call takes:
-288 of a header, 128 of a contaminant. The count is that of a list's records, or the place of a contaminant that is written. The
-line of a case is the number of its call and what came back.
+288 of a header, 128 of a contaminant. The scenario is by concentration where the word at byte 0 of the header is 6, and by intake
+where it is any other. The count is that of a list's records, or the place of a contaminant that is written. The line of a case is
+the number of its call and what came back.
 """
 import struct
 from typing import NamedTuple

@@ -4,13 +4,15 @@ import itertools
 import site_maker
 from call_frames import (AT_MOST, BUILT_IN, DECIMALS, GUIDELINE, LIST, OPERATIONS, WORKING, WRITE_CONTAMINANT, WRITE_HEADER,
                          built_in_call, contaminant_call, decimal_call, empty_call, guideline_call, header_call, list_call)
+from concentration_cases import air_case, inhaled_alone
 from guideline_maker import full_case, skin_case
 from guideline_records import (HARD_NUMBERS, HOUSE_FACTORS, NOT_IN_AIR, ON_SKIN, REQUIRED, USUAL, just_below_power, random_case,
                                random_decimal)
 from house_sites import house_site
 from second.blocks import BLOCK, header_of, record_of
 from second.decimals import ZERO, Decimal
-from second.terms import CHEMICAL, CONTAMINANT_VALUES, RADIONUCLIDE, SCENARIO_FACTORS, SOIL, TRITIUM, WATER
+from second.terms import (CHEMICAL, CONCENTRATION, CONTAMINANT_VALUES, INTAKE, RADIONUCLIDE, SCENARIO_FACTORS, SOIL, TRITIUM,
+                          WATER)
 from site_parts import CLASSES, full_site, quick_site
 
 ROOMS = (0, 511, 512, 513, 1024)
@@ -21,7 +23,9 @@ STORED_LISTS = {"missing_values": 12, "missing_factors": 8, "extreme_decimals": 
                 "two_in_one_block": 24, "faults_in_two_blocks": 24, "id_orders": 10, "plausible_sites": 14, "mixed_classes": 16,
                 "without_house": 10, "tritium_in_soil": 6, "missing_house": 16, "near_saturation": 4, "exact_saturations": 4,
                 "capped_sides": 4, "absent_inhalation": 8, "ignored_saturation": 10, "missing_on_skin": 5, "one_age": 3,
-                "hard_ages_in_sites": 5, "near_on_skin": 4, "capped_on_skin": 1, "ignored_on_skin": 2, "extreme_on_skin": 2}
+                "hard_ages_in_sites": 5, "near_on_skin": 4, "capped_on_skin": 1, "ignored_on_skin": 2, "extreme_on_skin": 2,
+                "missing_in_air": 4, "zero_hours": 4, "ignored_in_air": 4, "classes_in_air": 3, "capped_in_air": 1, "near_in_air": 5,
+                "exact_in_air": 4, "hard_in_sites": 3, "extreme_in_air": 2, "damaged_in_air": 4, "older_in_air": 5}
 MOST_RECORDS = 10
 RANDOM_FAMILIES = (*STORED_LISTS, "one_fault", "many_blocks", "mixed_in_many", "random_sites")
 
@@ -155,6 +159,21 @@ def stored_writers():
         yield header_call(512, 1, 120, {**case.scenario, name: FIELD_FAULTS[place % 4]})
 
 
+def stored_writers_in_air():
+    """Headers of kind 6, and A, U and Q in blocks of either kind: written, at fault, and the other refusals of a writer."""
+    case = air_case(SOIL)
+    for kind in (INTAKE, CONCENTRATION):
+        for place, d in enumerate((Decimal(999_999_999, -20), *FIELD_FAULTS)):
+            yield header_call(512, 1 + place % 2, 120, {**case.scenario, "kind": kind, "A": d})
+    for room, count, changes in ((513, 1, {}), (1024, 1, {"A": ZERO}), (511, 0, {}), (600, 121, {}), (600, 1, {"BW": ZERO}),
+                                 (600, 1, {"IR": FIELD_FAULTS[0]})):
+        yield header_call(room, 2, count, {**case.scenario, **changes})
+    yield header_call(512, 1, 3, inhaled_alone(case).scenario)
+    for place, name in enumerate(("U", "Q")):
+        for d in (ZERO, FIELD_FAULTS[place], FIELD_FAULTS[place + 2], Decimal(999_999_999, -20)):
+            yield contaminant_call(512, 1, {**case.record, name: d})
+
+
 def marked_decimals():
     """The figures that the specification marks."""
     one, two, three, seven = (Decimal(n * 10**8, -8) for n in (1, 2, 3, 7))
@@ -189,6 +208,7 @@ def stored_calls(source, seed):
     """All but the single guideline's."""
     yield from stored_lists(source, seed)
     yield from stored_writers()
+    yield from stored_writers_in_air()
     yield from map(built_in_call, (0, 1, 2, 3, 4, 257, 2**32 - 1))
     yield from stored_decimals(source)
     for case in ((0, 0, 0), (7, 0, 0), (2**32 - 1, 0, 0), (LIST, 0, 122), (WRITE_HEADER, 1025, 0), (WRITE_CONTAMINANT, 1025, 1)):
@@ -216,7 +236,7 @@ def random_call(source, lists):
         if source.randrange(12) == 0:
             return decimal_call(WORKING, random_decimal(source))
         return decimal_call(source.choice((*range(len(OPERATIONS)), AT_MOST)), random_operand(source), random_operand(source))
-    case, room = random_case(source), source.choice((*ROOMS, source.randint(512, 1024)))
+    case, room = random_case(source, in_air=source.randrange(2) == 0), source.choice((*ROOMS, source.randint(512, 1024)))
     if call == WRITE_HEADER:
         return header_call(room, case.medium, source.choice((1, 120, source.randint(0, 130))), case.scenario)
     if call == WRITE_CONTAMINANT:

@@ -4,13 +4,15 @@
     python3 tests/make_call_cases.py --check    status 1 when the stored files are not what it would write
 """
 import collections
+import itertools
 import pathlib
 import random
 import sys
 
+import concentration_cases
+import guideline_maker
 from call_frames import LIST, guideline_call
 from call_maker import stored_calls
-from guideline_maker import all_cases
 
 FOLDER = pathlib.Path(__file__).parent.parent / "crates" / "call_cases"
 SEED = 20261116
@@ -38,7 +40,8 @@ def check_all_there(calls):
 
 
 def main():
-    calls = [guideline_call(case) for case in all_cases()] + list(stored_calls(random.Random(SEED), SEED))
+    cases = itertools.chain(guideline_maker.all_cases(), concentration_cases.all_cases())
+    calls = [guideline_call(case) for case in cases] + list(stored_calls(random.Random(SEED), SEED))
     check_all_there(calls)
     made = {"stdin": b"".join(call.frame() for call in calls), "stdout": "".join(call.line() for call in calls).encode()}
     status = 0

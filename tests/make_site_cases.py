@@ -16,11 +16,12 @@ from check_sites import site_wrong
 from guideline_records import ON_SKIN
 from second.listing import text_of
 from second.sites import site
-from site_example import EXAMPLE_TEXT, example_site, skin_site, tritium_site
+from site_example import EXAMPLE_TEXT, concentration_site, example_site, skin_site, tritium_site
 from site_faults import BROKEN_FIELDS
 from site_frames import case_frame, filled, number_of
 from site_maker import FAMILIES, family_sites, one_fault
 from site_naming import family_of, planned
+from site_parts import MEDIA
 
 FOLDER = pathlib.Path(__file__).parent.parent / "crates"
 EXAMPLE, EXAMPLE_PRINTED = FOLDER / "gvlist" / "stdin", FOLDER / "gvlist" / "stdout"
@@ -35,7 +36,9 @@ NUMBERS = {"missing_values": 30, "missing_factors": 22, "near_target": 24, "near
            "mixed_classes": 14, "mixed_in_many": 2, "without_house": 12, "tritium_in_soil": 12, "near_saturation": 8,
            "exact_saturations": 10, "capped_sides": 8, "absent_inhalation": 10, "ignored_saturation": 16,
            "missing_on_skin": 5, "one_age": 3, "hard_ages_in_sites": 4, "near_on_skin": 3, "capped_on_skin": 2, "ignored_on_skin": 3,
-           "extreme_on_skin": 2}
+           "extreme_on_skin": 2, "missing_in_air": 6, "zero_hours": 4, "ignored_in_air": 6, "classes_in_air": 3, "capped_in_air": 3,
+           "near_in_air": 4, "exact_in_air": 3, "hard_in_sites": 3, "extreme_in_air": 2, "block_kinds": 9, "damaged_in_air": 10,
+           "older_in_air": 4}
 LENGTHS = {"many_blocks": 4608, "mixed_classes": 3072, "mixed_in_many": 4608}
 # Sites that are stored though they are long: the longest that has a right length, and one block more.
 LONG = ("lengths: 61952 bytes, longest; accepted", "lengths: 62464 bytes, cut; refused 1 block 0")
@@ -76,7 +79,8 @@ def fault_sites():
 
 def chosen():
     """The examples of the specification, then sites of each family."""
-    for what, given in (("the specification", example_site()), ("tritium in water", tritium_site()), ("soil on skin", skin_site())):
+    in_air = [(f"by concentration, {MEDIA[medium]}", concentration_site(medium)) for medium in MEDIA]
+    for what, given in (("the specification", example_site()), ("tritium in water", tritium_site()), ("soil on skin", skin_site()), *in_air):
         yield f"example: {what}; accepted", given, len(given)
     for family, _ in FAMILIES:
         yield from fault_sites() if family is one_fault else first_sites(family)

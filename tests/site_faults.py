@@ -2,7 +2,7 @@
 import struct
 from typing import Callable, NamedTuple
 
-from guideline_records import NOT_IN_AIR, REQUIRED
+from guideline_records import IN_AIR, NOT_IN_AIR, REQUIRED
 from second.blocks import CONTAMINANT, CONTAMINANT_PLACES, HEADER_PLACES, LAST_WORD, WORD, between_fields, with_last_word, word
 from second.guideline import CHECK, COUNT, FACTOR, FIELD, HOUSE, KIND, ORDER, PATHWAY
 from second.terms import INTAKE
@@ -95,14 +95,19 @@ def frame_faults(place, kind):
 def field_faults(all_places, word_at_8, wrong_words):
     """Refusal 4: decimals but for A, U and Q; the medium or class; bytes that are unused, or that must be zero where these three are."""
     places = {name: at for name, at in all_places.items() if name in NOT_IN_AIR}
-    for name, at in places.items():
-        for fault, field in BROKEN_FIELDS.items():
-            yield Fault(FIELD, f"{name} {fault}", put(at, struct.pack("<IhH", *field)))
+    yield from decimal_faults(places)
     for wrong in wrong_words:
         yield Fault(FIELD, f"{word_at_8} {wrong}", put_word(8, wrong))
     for at in between_fields(places.values()):
         if at in FIELD_ENDS:
             yield Fault(FIELD, f"byte {at} set", put(at, bytes([1 if at % 2 else 255])))
+
+
+def decimal_faults(places):
+    """Refusal 4 in the decimals that stand at these places."""
+    for name, at in places.items():
+        for fault, field in BROKEN_FIELDS.items():
+            yield Fault(FIELD, f"{name} {fault}", put(at, struct.pack("<IhH", *field)))
 
 
 def count_faults(count):
@@ -133,6 +138,16 @@ def pathway_faults(medium, klass):
 def house_faults(klass):
     """Refusal 12, by the class that no record can have there."""
     yield Fault(HOUSE, f"class {klass} there", put_word(8, klass))
+
+
+def air_faults(is_header):
+    """Refusals 3 and 4 of a block of either kind of site: other kinds, A or U and Q, and the unused bytes beside them."""
+    for wrong in (5, 7, 261, 262, 6 + 2**16, 5 * 2**8, 6 * 2**24, 6 + 2**31, WORD - 6) if is_header else (1, 5, 6, 258, 6 + 2**16, WORD - 2):
+        yield Fault(KIND, f"kind {wrong} there", put_word(0, wrong))
+    places = HEADER_PLACES if is_header else CONTAMINANT_PLACES
+    yield from decimal_faults({name: at for name, at in places.items() if name in IN_AIR})
+    for at in range(176, 192) if is_header else range(88, 96):
+        yield Fault(FIELD, f"unused byte {at} set", put(at, bytes([1 if at % 2 else 255])))
 
 
 def header_faults(count):

@@ -11,15 +11,17 @@ import random
 
 from guideline_records import (HARD_NUMBERS, HOUSE_FACTORS, ON_SKIN, USUAL, Case, random_classes, random_decimal,
                                random_valid_case, with_carry)
+from concentration_sites import (block_kinds, capped_in_air, classes_in_air, damaged_in_air, exact_in_air, extreme_in_air, hard_in_sites,
+                                 ignored_in_air, in_air, missing_in_air, near_in_air, zero_hours)
 from house_sites import missing_house, mixed_classes, mixed_in_many, tritium_in_soil, without_house
 from saturation_sites import absent_inhalation, capped_sides, exact_saturations, ignored_saturation, near_saturation
 from second.blocks import BLOCK, CONTAMINANT_PLACES, HEADER_PLACES, WORD, with_last_word, word
 from second.decimals import ZERO, Decimal
-from second.guideline import CHECK, COUNT, KIND, LENGTH, ORDER, ROOM
+from second.guideline import ACCEPTED, CHECK, COUNT, KIND, LENGTH, ORDER, PATHWAY, ROOM
 from second.sites import LONGEST
 from second.terms import CHEMICAL, CONTAMINANT_VALUES, RADIONUCLIDE, RISK, SIDES, TRITIUM, WATER
 from site_faults import BROKEN_FIELDS, are_apart, put_word
-from site_naming import any_room, interleaved, lent, refusal, room_for, short_room, shuffled
+from site_naming import any_room, interleaved, lent, planned, refusal, room_for, short_room, shuffled
 from site_parts import CLASSES, KINDS, MEDIA, ONE, Site, full_site, plausible_site, quick_site, some_ids, with_decimals
 from site_targets import BESIDE_SUMS, with_concentrations_near, with_targets_near
 from skin_sites import capped_on_skin, extreme_on_skin, hard_ages_in_sites, ignored_on_skin, missing_on_skin, near_on_skin, one_age
@@ -29,6 +31,8 @@ from skin_sites import capped_on_skin, extreme_on_skin, hard_ages_in_sites, igno
 IN_BLOCK = {0: (2, 3, 4, 5, 6), 1: (2, 3, 4, 12, 8), **dict.fromkeys((2, 3), (2, 3, 4, 7, 12, 8))}
 # Where the last field of a header ends, and that of a contaminant.
 HEADER_END, CONTAMINANT_END = (max(places.values()) + 8 for places in (HEADER_PLACES, CONTAMINANT_PLACES))
+# The most blocks of an older site that is made one by concentration.
+MOST_IN_AIR = 31
 
 
 def missing_values(source):
@@ -412,8 +416,8 @@ def random_sites(source):
         yield f"random: {count}", content, source.choice((room_for, room_for, room_for, any_room))(source, len(content))
 
 
-# Each family and how many of its sites come in one round.
-FAMILIES = (
+# Each family by intake, and how many of its sites come in one round.
+BY_INTAKE = (
     (missing_values, 4), (missing_factors, 2), (missing_house, 1), (extreme_decimals, 1), (near_target, 2), (near_concentration, 1),
     (exact_targets, 1), (hard_roundings, 1), (small_shares, 1), (zero_concentrations, 1), (one_side, 1), (one_fault, 6),
     (two_in_one_block, 2), (faults_in_two_blocks, 2), (mixed_classes, 2), (mixed_in_many, 1), (without_house, 1),
@@ -423,6 +427,27 @@ FAMILIES = (
     (absent_inhalation, 1), (ignored_saturation, 1), (missing_on_skin, 2), (one_age, 1), (hard_ages_in_sites, 1), (near_on_skin, 1),
     (capped_on_skin, 1), (ignored_on_skin, 1), (extreme_on_skin, 1),
 )
+
+
+def older_in_air(source):
+    """A site of each family by intake in turn, with a header of kind 6, A, U and Q, but for the longest.
+
+    What was planned to be sent back stays so where it is tested before the pathways and before the room: in the header and the first
+    contaminant.
+    """
+    streams = [family_sites(family, source.randrange(2**32)) for family, turns in BY_INTAKE for _ in range(turns)]
+    while True:
+        for name, content, room in itertools.chain.from_iterable(itertools.islice(stream, 1) for stream in streams):
+            number, block = planned(name) or (ACCEPTED, 0)
+            if len(content) > MOST_IN_AIR * BLOCK:
+                continue
+            stays = number not in (ACCEPTED, PATHWAY, ROOM) and block <= 1
+            what = name if stays else name.rpartition(";")[0] or name
+            yield f"older in air: {what}", in_air(source, content), room
+
+
+FAMILIES = (*BY_INTAKE, (missing_in_air, 1), (zero_hours, 1), (ignored_in_air, 1), (classes_in_air, 1), (capped_in_air, 1), (near_in_air, 2),
+            (exact_in_air, 1), (hard_in_sites, 2), (extreme_in_air, 1), (block_kinds, 1), (damaged_in_air, 2), (older_in_air, 8))
 
 
 def family_sites(family, seed):

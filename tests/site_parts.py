@@ -5,8 +5,8 @@ from guideline_records import USUAL, Case, full_scenario
 from second.blocks import WORD, contaminant_block, header_block
 from second.decimals import ZERO, Decimal
 from second.guideline import has_any_pathway
-from second.terms import CHEMICAL, CONTAMINANT_VALUES, RADIONUCLIDE, SCENARIO_FACTORS, SOIL, TRITIUM, WATER, inputs_of
-from site_faults import contaminant_faults, damaged, header_faults
+from second.terms import CHEMICAL, CONCENTRATION, CONTAMINANT_VALUES, RADIONUCLIDE, SCENARIO_FACTORS, SOIL, TRITIUM, WATER, inputs_of
+from site_faults import air_faults, contaminant_faults, damaged, header_faults
 
 MEDIA = {SOIL: "soil", WATER: "water"}
 CLASSES = {CHEMICAL: "chemical", RADIONUCLIDE: "radionuclide", TRITIUM: "tritium"}
@@ -69,6 +69,10 @@ class Site:
         previous_id = self.records[place - 2]["id"] if place > 1 else None
         return list(contaminant_faults(place, self.medium, record["class"], previous_id, self.impossible_class(place)))
 
+    def air_faults(self, place):
+        """Every fault of the block at this place by which a site by concentration differs from the others."""
+        return list(air_faults(place == 0))
+
     def impossible_class(self, place):
         """The class that no record at this place can have beside the earlier ones (refusal 12), None where each is possible.
 
@@ -114,6 +118,15 @@ def with_skin(source, site):
     site.scenario.update({name: Decimal(d.m * 10**digits + source.randrange(10**digits), d.e - digits) for name, d in TWO_AGES.items()})
     for record in site.records:
         record["ABS"] = plausible(source, -3, -1)
+    return site
+
+
+def with_air(source, site, kind=CONCENTRATION):
+    """The site of this kind, with A, and U and Q in each record, at times of nine digits."""
+    hours = source.choice((Decimal(8, 0), Decimal(24, 0), Decimal(source.randint(10**7, 24 * 10**7), -7)))
+    site.scenario.update({"kind": kind, "A": hours})
+    for record in site.records:
+        record.update({"U": plausible(source, -7, -3), "Q": plausible(source, -4, 0)})
     return site
 
 
