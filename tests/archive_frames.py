@@ -3,9 +3,9 @@
     python3 tests/archive_frames.py 5000 1 CASES EXPECTED        writes both files for 5000 calls from seed 1
 
 A case is seven little-endian words: the call (1 gv_guideline, 2 gv_write_header, 3 gv_write_contaminant, 4 gv_write_built_in),
-three numbers (a contaminant's place; or a built-in number, medium and count), the length of the first and of the second
-struct, then the length of the output, and the structs. Its answer is the number that comes back (8 bytes) and all bytes of
-the output, each of which is 165 before the call.
+three numbers (the kind that is given with a header; or a contaminant's place; or a built-in number, medium and count), the length of
+the first and of the second struct, then the length of the output, and the structs. Its answer is the number that comes back (8 bytes)
+and all bytes of the output, each of which is 165 before the call.
 """
 import pathlib
 import random
@@ -14,7 +14,7 @@ import sys
 
 from call_frames import built_in
 from guideline_records import random_case
-from second.blocks import (CONTAMINANT_PLACES, HEADER_PLACES, between_fields, contaminant_block, field_bytes, header_block,
+from second.blocks import (CONTAMINANT_PLACES, HEADER_PLACES, HEADERS, between_fields, contaminant_block, field_bytes, header_block,
                            write_contaminant, write_header)
 from second.guideline import ACCEPTED, FIELD, ROOM, guideline, refused, scenario_refusal
 from site_frames import filled
@@ -22,6 +22,7 @@ from site_frames import filled
 GUIDELINE, HEADER, CONTAMINANT, BUILT_IN = range(1, 5)
 STRUCT = slice(8, 508)  # a struct of C: a block without kind and place and without its last word
 BLOCK, GUIDELINES = 512, 64
+NO_KINDS = (0, 2, 3, 4, 5, 7, 257, 262, 6 + 2**16, 1 + 2**31, 2**32 - 6, 2**32 - 1)
 
 
 def header_struct(case, count):
@@ -49,7 +50,10 @@ def with_form(source, given, places):
 
 
 def with_header_form(source, case, count):
-    return with_form(source, header_struct(case, count), list(HEADER_PLACES.values()))
+    """The kind that is given with a header, mostly the scenario's; the struct; and whether the two have their form."""
+    kind = source.choice(NO_KINDS) if source.randrange(12) == 0 else case.scenario["kind"]
+    header, good = with_form(source, header_struct(case, count), list(HEADER_PLACES.values()))
+    return kind, header, good and kind in HEADERS
 
 
 def with_contaminant_form(source, case):
@@ -57,7 +61,7 @@ def with_contaminant_form(source, case):
 
 
 def guideline_answer(case, header_good, record_good):
-    """As the single guideline; a struct of another form breaks rule 4 in its turn."""
+    """As the single guideline; another kind or a struct of another form breaks rule 4 in its turn."""
     if not header_good:
         return refused(FIELD, 0)
     number = scenario_refusal(case.scenario, case.medium)
@@ -67,7 +71,7 @@ def guideline_answer(case, header_good, record_good):
 
 
 def guideline_call(source, case, room):
-    header, header_good = with_header_form(source, case, source.randrange(200))
+    kind, header, header_good = with_header_form(source, case, source.randrange(200))
     record, record_good = with_contaminant_form(source, case)
     answer = guideline_answer(case, header_good, record_good)
     if answer.refusal == ACCEPTED and room < GUIDELINES:
@@ -75,11 +79,11 @@ def guideline_call(source, case, room):
     output = filled(room)
     if answer.refusal == ACCEPTED:
         output = b"".join(map(field_bytes, answer.guidelines)) + output[GUIDELINES:]
-    return (GUIDELINE, 0, 0, 0, header, record), answer.refusal | answer.block << 8, output
+    return (GUIDELINE, kind, 0, 0, header, record), answer.refusal | answer.block << 8, output
 
 
 def of_form(good, room, written):
-    """What a writer sends back and leaves: 10, then 4 for a struct of another form, then its own."""
+    """What a writer sends back and leaves: 10, then 4 for another kind or a struct of another form, then its own."""
     if not good:
         return (ROOM if room < BLOCK else FIELD), filled(room)
     return written
@@ -87,9 +91,9 @@ def of_form(good, room, written):
 
 def header_call(source, case, room):
     count = source.choice((1, 120, source.randint(0, 130)))
-    header, good = with_header_form(source, case, count)
+    kind, header, good = with_header_form(source, case, count)
     number, output = of_form(good, room, write_header(filled(room), case.medium, count, case.scenario))
-    return (HEADER, 0, 0, 0, header, b""), number, output
+    return (HEADER, kind, 0, 0, header, b""), number, output
 
 
 def contaminant_call(source, case, room):
@@ -114,7 +118,7 @@ def random_call(source):
     make = source.choice((guideline_call, guideline_call, header_call, contaminant_call, built_in_call))
     rooms = (0, 63, 64, 65, 100) if make is guideline_call else (0, 511, 512, 513, 1024)
     room = rooms[2] if source.randrange(2) else source.choice(rooms)
-    (call, a, b, c, first, second), number, output = make(source, random_case(source), room)
+    (call, a, b, c, first, second), number, output = make(source, random_case(source, in_air=source.randrange(2) == 0), room)
     head = struct.pack("<7I", call, a, b, c, len(first), len(second), room)
     return head + first + second, struct.pack("<Q", number) + output
 

@@ -31,10 +31,12 @@ static uint64_t made(const struct call *x, uint8_t *out)
     switch (x->which) {
     case 1:
         if (header && contaminant && x->out_len == GV_GUIDELINES)
-            return gv_single(header, contaminant, (void *)out);
-        return gv_guideline(x->first, x->first_len, x->second, x->second_len, out, x->out_len);
+            return gv_single(x->a, header, contaminant, (void *)out);
+        return gv_guideline(x->a, x->first, x->first_len, x->second, x->second_len, out, x->out_len);
     case 2:
-        return header ? gv_put_header(out, x->out_len, header) : gv_write_header(out, x->out_len, x->first, x->first_len);
+        if (header)
+            return gv_put_header(out, x->out_len, x->a, header);
+        return gv_write_header(out, x->out_len, x->a, x->first, x->first_len);
     case 3:
         if (contaminant)
             return gv_put_contaminant(out, x->out_len, x->a, contaminant);
