@@ -61,7 +61,7 @@ def zero_hours(source):
     """A zero: by concentration chemicals are not inhaled, by intake and for the other classes it changes nothing."""
     listed = [(*of_site, kind, False) for of_site in KINDS for kind in KIND_NAMES]
     listed += [(medium, CHEMICAL, kind, True) for medium in MEDIA for kind in KIND_NAMES]
-    for medium, klass, kind, alone in itertools.cycle(shuffled(source, listed)):
+    for medium, klass, kind, alone in itertools.cycle(interleaved(shuffled(source, listed), key=lambda case: (case[1] == CHEMICAL, case[2]))):
         site = air_site(source, source.choice((1, 1, 2)), medium, klass, kind)
         site.scenario["A"] = ZERO
         if alone:
@@ -208,24 +208,24 @@ WITH_DAMAGE = {0: (CHECK, KIND, COUNT, FACTOR), 1: (CHECK, KIND, PATHWAY), 2: (C
 
 
 def damaged_in_air(source):
-    """A, U and Q and the unused bytes beside them damaged in sites of either kind, in the first or the second contaminant; at times with
-    another fault in the same block, of which the one tested first is sent back."""
+    """A, U and Q and the unused bytes beside them damaged in sites of either kind, in the header, the first or the second contaminant; one of
+    three again with another fault in the same block, and the one tested first is sent back. Every decimal comes early, in its two zero bytes
+    and elsewhere."""
     places = (0, 1, 2)
     faults = {place: [fault for fault in air_site(source, 2).air_faults(place) if fault.number == FIELD] for place in places}
     listed = [(kind, place, fault) for kind in KIND_NAMES for place in places for fault in faults[place]]
-    cases = interleaved(shuffled(source, listed), key=lambda case: (case[1], case[2].name.partition(" ")[0], case[0]))
+    cases = interleaved(shuffled(source, listed),
+                        key=lambda case: (case[1] == 0, case[2].name.partition(" ")[0], "zero byte" in case[2].name))
     for number, (kind, place, fault) in enumerate(itertools.chain(cases, (source.choice(listed) for _ in itertools.count()))):
         site = air_site(source, 2, klass=None, kind=kind)
-        made, sent = [fault], FIELD
-        if number % 3 == 2:
-            wanted = source.choice(WITH_DAMAGE[place])
-            others = [other for other in site.faults(place) if other.number == wanted and are_apart(site.blocks()[place], fault, other)]
-            if not others:
-                continue
-            made.append(source.choice(others))
-            sent = wanted if wanted in (CHECK, KIND) else FIELD
-        name = f"damaged in air: {KIND_NAMES[kind]}, {', '.join(one.name for one in made)}"
-        yield lent(source, name + refusal(sent, place), site.with_faults({place: made}))
+        name = f"damaged in air: {KIND_NAMES[kind]}, {fault.name}"
+        yield lent(source, name + refusal(FIELD, place), site.with_faults({place: [fault]}))
+        wanted = source.choice(WITH_DAMAGE[place])
+        others = [other for other in site.faults(place) if other.number == wanted and are_apart(site.blocks()[place], fault, other)]
+        if number % 3 == 2 and others:
+            other = source.choice(others)
+            sent = refusal(wanted if wanted in (CHECK, KIND) else FIELD, place)
+            yield lent(source, f"{name}, {other.name}{sent}", site.with_faults({place: [fault, other]}))
 
 
 def put_kept(block, at, content):

@@ -36,8 +36,8 @@ NUMBERS = {"missing_values": 30, "missing_factors": 22, "near_target": 24, "near
            "mixed_classes": 14, "mixed_in_many": 2, "without_house": 12, "tritium_in_soil": 12, "near_saturation": 8,
            "exact_saturations": 10, "capped_sides": 8, "absent_inhalation": 10, "ignored_saturation": 16,
            "missing_on_skin": 5, "one_age": 3, "hard_ages_in_sites": 4, "near_on_skin": 3, "capped_on_skin": 2, "ignored_on_skin": 3,
-           "extreme_on_skin": 2, "missing_in_air": 6, "zero_hours": 4, "ignored_in_air": 6, "classes_in_air": 3, "capped_in_air": 3,
-           "near_in_air": 4, "exact_in_air": 3, "hard_in_sites": 3, "extreme_in_air": 2, "block_kinds": 9, "damaged_in_air": 10,
+           "extreme_on_skin": 2, "missing_in_air": 6, "zero_hours": 6, "ignored_in_air": 6, "classes_in_air": 3, "capped_in_air": 3,
+           "near_in_air": 4, "exact_in_air": 3, "hard_in_sites": 3, "extreme_in_air": 2, "block_kinds": 9, "damaged_in_air": 12,
            "older_in_air": 4}
 LENGTHS = {"many_blocks": 4608, "mixed_classes": 3072, "mixed_in_many": 4608}
 # Sites that are stored though they are long: the longest that has a right length, and one block more.

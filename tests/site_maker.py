@@ -435,7 +435,8 @@ def older_in_air(source):
     What was planned to be sent back stays so where it is tested before the pathways and before the room: in the header and the first
     contaminant.
     """
-    streams = [family_sites(family, source.randrange(2**32)) for family, turns in BY_INTAKE for _ in range(turns)]
+    most = max(turns for _, turns in BY_INTAKE)
+    streams = [family_sites(family, source.randrange(2**32)) for turn in range(most) for family, turns in BY_INTAKE if turn < turns]
     while True:
         for name, content, room in itertools.chain.from_iterable(itertools.islice(stream, 1) for stream in streams):
             number, block = planned(name) or (ACCEPTED, 0)
