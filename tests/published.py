@@ -4,6 +4,9 @@
 
 A computed guideline agrees when it lies in the half-unit interval of the last printed digit. An intake factor is a term without its
 slope factor, reference dose and absorbed fraction: where these and the target are 1, the guideline is one over it.
+
+002 is older than inhalation by concentration, but its numbers fit it: its RfDi is RfC x 20 / 70, 20 m3 of air a day over 70 kg, and every
+one of its scenarios breathes 20 m3 and weighs 70 kg in that pathway. Entries of kind 6 take the printed RfC as Q, the hours as A.
 """
 import json
 import pathlib
@@ -12,6 +15,7 @@ from fractions import Fraction
 
 from guideline_records import Case, answer_of
 from second.decimals import Decimal, exponent_of, power_of_ten, value
+from second.terms import INTAKE
 
 MEDIA = {"soil": 1, "water": 2}
 CLASSES = {"chemical": 1, "radionuclide": 2, "tritium": 3}
@@ -29,7 +33,7 @@ def decimal_of(text):
 def case_of(entry, number):
     record = {name: decimal_of(text) for name, text in entry["contaminant"].items() if name != "name"}
     record.update({"class": CLASSES[entry["class"]], "id": number})
-    scenario = {name: decimal_of(text) for name, text in entry["scenario"].items()}
+    scenario = {"kind": entry.get("kind", INTAKE), **{name: decimal_of(text) for name, text in entry["scenario"].items()}}
     return Case(MEDIA[entry["medium"]], scenario, record)
 
 
