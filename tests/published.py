@@ -5,8 +5,8 @@
 A computed guideline agrees when it lies in the half-unit interval of the last printed digit. An intake factor is a term without its
 slope factor, reference dose and absorbed fraction: where these and the target are 1, the guideline is one over it.
 
-002 is older than inhalation by concentration, but its numbers fit it: its RfDi is RfC x 20 / 70, 20 m3 of air a day over 70 kg, and every
-one of its scenarios breathes 20 m3 and weighs 70 kg in that pathway. Entries of kind 6 take the printed RfC as Q, the hours as A.
+002 is older than inhalation by concentration, but its numbers fit it: its RfDi is RfC x 20 / 70, 20 m3 of air a day over 70 kg, and its
+scenarios all have 20 m3 and 70 kg in the inhalation of chemicals. Entries of kind 6 take its RfC as Q and its hours in that air as A.
 """
 import json
 import pathlib
