@@ -13,6 +13,8 @@ use Rattle.decimal.specs.Fraction.{Fraction}
 use Rattle.decimal.specs.Decimal.{zero_of, working_of}
 use Rattle.decimal.proofs.Approximation.{fair_zero, given_zero, working_fair}
 use Rattle.decimal.proofs.Ranges.{covers}
+use Rattle.inputs.specs.declared.kind.Inhalation.{Inhalation}
+use Rattle.inputs.specs.declared.kind.Inhalation.TheVariants.{Intake, Concentration}
 use Rattle.inputs.specs.declared.Scenario.{Scenario}
 use Rattle.inputs.specs.declared.Contaminant.{Contaminant}
 use Rattle.inputs.specs.Valid.{valid_of, all_valid}
@@ -77,7 +79,7 @@ module _ (vs : List Decimal) (qs : List Fraction) (r : Represents Up vs qs) wher
 -- ---- what the code tests is what the table asks, where the factors that every term names are known
 module _ (s : Scenario) (r : Contaminant) (h : Needed s) where
   abbrev air : Bool
-  air = known_of s.contact.ira && (known_of r.transfer.vf || known_of s.contact.pef)
+  air = known_of r.transfer.vf || known_of s.contact.pef
 
   -- as the table has it, and as the code
   abbrev skin : Bool
@@ -86,33 +88,43 @@ module _ (s : Scenario) (r : Contaminant) (h : Needed s) where
   abbrev wet : Bool
   wet = (known_of s.contact.sa && known_of r.transfer.pc) && known_of s.contact.et
 
-  pub soil_chemical_lem : chemical_of r (known_of s.contact.ir || on_skin s r) air ≡ either_known (known_values s r) 1 1
+  pub soil_chemical_lem : (i : Inhalation) → chemical_of i s r (known_of s.contact.ir || on_skin s r) air ≡ either_known i s r 1 1
   unfolding known_values derived pathways_of table
-  soil_chemical_lem =
+  soil_chemical_lem Intake =
       let x = r.toxicity in
       rw (h.ef, h.ed, h.bw, h.at)
       (simp (and-true, or-false)
-      (three_ways (known_of x.sfo) (known_of x.sfi) (known_of x.rfdo) (known_of x.rfdi) (known_of s.contact.ir) air (on_skin s r)))
+      (three_ways (known_of x.sfo) (known_of x.sfi) (known_of x.rfdo) (known_of x.rfdi) (known_of s.contact.ir) (known_of s.contact.ira && air) (on_skin s r)))
+  soil_chemical_lem Concentration =
+      let x = r.toxicity in
+      rw (h.ef, h.ed, h.bw, h.at)
+      (simp (and-true, or-false)
+      (three_ways (known_of x.sfo) (known_of r.in_air.u) (known_of x.rfdo) (known_of r.in_air.q) (known_of s.contact.ir) (air && known_of s.air_hours) (on_skin s r)))
 
   abbrev ingested : Bool
   ingested = known_of r.toxicity.sfo && known_of s.contact.ir
 
-  pub soil_radionuclide_lem : (ingested || (known_of r.toxicity.sfi && known_of s.contact.ira) && known_of s.contact.pef) ||
-      (known_of r.toxicity.sfx && known_of s.contact.et) && known_of s.contact.rf ≡ either_known (known_values s r) 1 2
+  pub soil_radionuclide_lem : (i : Inhalation) → (ingested || known_of r.toxicity.sfi && (known_of s.contact.ira && known_of s.contact.pef)) ||
+      (known_of r.toxicity.sfx && known_of s.contact.et) && known_of s.contact.rf ≡ either_known i s r 1 2
   unfolding known_values derived pathways_of table
-  soil_radionuclide_lem = rw (h.ef, h.ed) (simp (and-true, or-false, and_assoc, or_assoc))
+  soil_radionuclide_lem i = rw (h.ef, h.ed) (simp (and-true, or-false, and_assoc, or_assoc))
 
-  pub water_chemical_lem : chemical_of r (known_of s.contact.ir || wet) (known_of s.contact.ira) ≡ either_known (known_values s r) 2 1
+  pub water_chemical_lem : (i : Inhalation) → chemical_of i s r (known_of s.contact.ir || wet) true ≡ either_known i s r 2 1
   unfolding known_values derived pathways_of table
-  water_chemical_lem =
+  water_chemical_lem Intake =
       let x = r.toxicity in
       rw (and_assoc (known_of s.contact.sa) (known_of r.transfer.pc) (known_of s.contact.et), h.ef, h.ed, h.bw, h.at)
       (simp (and-true, or-false)
       (three_ways (known_of x.sfo) (known_of x.sfi) (known_of x.rfdo) (known_of x.rfdi) (known_of s.contact.ir) (known_of s.contact.ira) skin))
+  water_chemical_lem Concentration =
+      let x = r.toxicity in
+      rw (and_assoc (known_of s.contact.sa) (known_of r.transfer.pc) (known_of s.contact.et), h.ef, h.ed, h.bw, h.at)
+      (simp (and-true, or-false)
+      (three_ways (known_of x.sfo) (known_of r.in_air.u) (known_of x.rfdo) (known_of r.in_air.q) (known_of s.contact.ir) (known_of s.air_hours) skin))
 
-  pub water_radionuclide_lem : ingested ≡ either_known (known_values s r) 2 2
+  pub water_radionuclide_lem : (i : Inhalation) → ingested ≡ either_known i s r 2 2
   unfolding known_values derived pathways_of table
-  water_radionuclide_lem = rw (h.ef, h.ed) (simp (and-true, or-false))
+  water_radionuclide_lem i = rw (h.ef, h.ed) (simp (and-true, or-false))
 
 -- ---- tritium in water: as the code has it, and as the table
 module _ (s : Scenario) (r : Contaminant) (h : Needed s) where
@@ -133,9 +145,9 @@ module _ (s : Scenario) (r : Contaminant) (h : Needed s) where
   abbrev through_skin : Bool
   through_skin = ((known_of r.toxicity.sfo && known_of s.contact.sa) && known_of s.house.k) && known_of s.contact.et
 
-  pub water_tritium_lem : (oral || inhaled) || through_skin ≡ either_known (known_values s r) 2 3
+  pub water_tritium_lem : (i : Inhalation) → (oral || inhaled) || through_skin ≡ either_known i s r 2 3
   unfolding known_values derived pathways_of table
-  water_tritium_lem = rw (h.ef, h.ed) (simp (and-true, or-false, and_assoc, or_assoc))
+  water_tritium_lem i = rw (h.ef, h.ed) (simp (and-true, or-false, and_assoc, or_assoc))
 
 -- ---- inputs that keep their rules
 pub needed : (s : Scenario) → lacks_factor s ≡ false → Needed s
@@ -156,11 +168,11 @@ module _ {s : Scenario} {medium : ℕ} {r : Contaminant} (h : Checked s medium r
   valid : all_valid l ≡ true
   valid = inputs_valid s r checked_inputs.scenario checked_inputs.contaminant
 
-  plain_known : map known_of (plain_values l) ≡ not_yet ++ known_inputs s r
+  plain_known : map known_of (plain_values l) ≡ not_yet ++ known_inputs s.inhalation s r
   unfolding derived
   plain_known = ap (λ (ks : List Bool). not_yet ++ ks) (working_known l valid)
 
-  values_known : map known_of (values_for Up s r) ≡ known_values s r
+  values_known : map known_of (values_for Up s r) ≡ known_values s.inhalation s r
   unfolding values_of known_values
   values_known =
       map-append known_of (map (total_of (plain_values l) Up) derived) (map working_of l) ∙
@@ -168,10 +180,10 @@ module _ {s : Scenario} {medium : ℕ} {r : Contaminant} (h : Checked s medium r
       (parts_known (plain_values l) (exact_plain l) (plain_stand Up l valid) derived derived_every ∙ ap (λ (ks : List Bool). map (some_known ks) derived) plain_known)
       (working_known l valid)
 
-  pub side_known : (side : Side) → has_pathway s medium r side ≡ some_known (known_values s r) (formulas_for s medium r side)
+  pub side_known : (side : Side) → has_pathway s medium r side ≡ some_known (known_values s.inhalation s r) (formulas_for s medium r side)
   unfolding has_pathway
   side_known side = any_known (values_for Up s r) (formulas_for s medium r side) ∙ ap (λ (ks : List Bool). some_known ks (formulas_for s medium r side)) values_known
 
   -- the answer for the medium and the class is that of the definitions
-  pub pathway_is : {m k : ℕ} {b : Bool} → medium ≡ m → r.class ≡ k → b ≡ either_known (known_values s r) m k → b ≡ either_side s medium r
+  pub pathway_is : {m k : ℕ} {b : Bool} → medium ≡ m → r.class ≡ k → b ≡ either_known s.inhalation s r m k → b ≡ either_side s medium r
   pathway_is e g q = q ∙ rw (← e, ← g, side_known Risk, side_known Hazard)

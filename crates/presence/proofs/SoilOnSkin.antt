@@ -28,8 +28,8 @@ either_age x y (inl k) = rw (age_known_lem x k) refl
 either_age x y (inr k) = rw (age_known_lem y k) (or-true (in_table x))
 
 module _ {s : Scenario} {medium : ℕ} {r : Contaminant} (h : Checked s medium r) (c : ChemicalInSoil medium r) (k : SkinKnown s r) where
-  seen_with : (side : Side) → some_known (known_values s r) (pathways_of 1 1 side) ≡ true → has_pathway s medium r side ≡ true
-  seen_with side e = side_known h side ∙ (λ i. some_known (known_values s r) (pathways_of (c.soil i) (c.chemical i) side)) ∙ e
+  seen_with : (side : Side) → some_known (known_values s.inhalation s r) (pathways_of s.inhalation 1 1 side) ≡ true → has_pathway s medium r side ≡ true
+  seen_with side e = side_known h side ∙ (λ i. some_known (known_values s.inhalation s r) (pathways_of s.inhalation (c.soil i) (c.chemical i) side)) ∙ e
 
   pub risk_on_skin : eqb r.toxicity.sfo.m 0 ≡ false → has_pathway s medium r Risk ≡ true
   unfolding known_values derived pathways_of table

@@ -2,11 +2,14 @@
 use Rattle.std.specs.Prelude.{◌≡◌, Bool, true, false, not, ◌&&◌, ◌||◌, List, [], ◌∷◌, ◌++◌, map, ℕ, eqb, get_or}
 use Rattle.decimal.specs.declared.Decimal.{Decimal}
 use Rattle.inputs.specs.declared.groups.Age.{Age}
+use Rattle.inputs.specs.declared.kind.Inhalation.{Inhalation}
+use Rattle.inputs.specs.declared.kind.Inhalation.TheVariants.{Intake, Concentration}
+use Rattle.inputs.specs.Inputs.{scenario_decimals, formula_decimals}
 use Rattle.inputs.specs.declared.Scenario.{Scenario}
 use Rattle.inputs.specs.declared.Contaminant.{Contaminant}
 use Rattle.formulas.specs.Side.{Risk, Hazard}
 use Rattle.formulas.specs.Formula.{Formula, pathways_of, derived}
-use Rattle.formulas.specs.Term.{has_factors, inputs_of}
+use Rattle.formulas.specs.Term.{has_factors, constants}
 
 abbrev pub known_of : Decimal → Bool
 known_of d = not (eqb d.m 0)
@@ -20,19 +23,20 @@ abbrev pub some_known : List Bool → List Formula → Bool
 some_known ks [] = false
 some_known ks (f ∷ fs) = has_factors f.before && (all_known ks f.before && all_known ks f.after) || some_known ks fs
 
--- what is known of each name, in the order of `values_of`: a factor that is worked out by its parts, an input by its own decimal
-abbrev pub known_inputs : Scenario → Contaminant → List Bool
-known_inputs s r = map known_of (inputs_of s r)
+-- what is known of each name, in the order of `values_of`, by intake or by concentration: a factor that is worked out by its parts, an input by its
+-- own decimal
+abbrev pub known_inputs : Inhalation → Scenario → Contaminant → List Bool
+known_inputs i s r = map known_of (constants ++ (scenario_decimals s ++ formula_decimals i r))
 
 abbrev pub not_yet : List Bool
 not_yet = map (λ (fs : List Formula). false) derived
 
-unfoldable pub known_values : Scenario → Contaminant → List Bool
-known_values s r = map (some_known (not_yet ++ known_inputs s r)) derived ++ known_inputs s r
+unfoldable pub known_values : Inhalation → Scenario → Contaminant → List Bool
+known_values i s r = map (some_known (not_yet ++ known_inputs i s r)) derived ++ known_inputs i s r
 
 -- a pathway on either side
-abbrev pub either_known : List Bool → ℕ → ℕ → Bool
-either_known ks medium class = some_known ks (pathways_of medium class Risk) || some_known ks (pathways_of medium class Hazard)
+abbrev pub either_known : Inhalation → Scenario → Contaminant → ℕ → ℕ → Bool
+either_known i s r medium class = some_known (known_values i s r) (pathways_of i medium class Risk) || some_known (known_values i s r) (pathways_of i medium class Hazard)
 
 -- the factors that no scenario lacks once refusal 6 is passed
 pub record Needed (s : Scenario) : Type 0 where
@@ -48,7 +52,11 @@ age_known x = (known_of x.sa && (known_of x.ef && known_of x.ed)) && known_of x.
 abbrev pub on_skin : Scenario → Contaminant → Bool
 on_skin s r = known_of r.abs && (known_of s.ages.af && (age_known s.ages.child || age_known s.ages.adult))
 
--- a chemical, by what is known of the ways into the body: by the dose of each
-abbrev pub chemical_of : Contaminant → Bool → Bool → Bool
-chemical_of r swallowed breathed =
-    swallowed && (known_of r.toxicity.sfo || known_of r.toxicity.rfdo) || breathed && (known_of r.toxicity.sfi || known_of r.toxicity.rfdi)
+-- inhalation of a chemical, by what is known of the factor from soil or water to the air
+abbrev pub inhaled_of : Inhalation → Scenario → Contaminant → Bool → Bool
+inhaled_of Intake s r air = (known_of s.contact.ira && air) && (known_of r.toxicity.sfi || known_of r.toxicity.rfdi)
+inhaled_of Concentration s r air = (air && known_of s.air_hours) && (known_of r.in_air.u || known_of r.in_air.q)
+
+-- a chemical, by what is known of the ways through the mouth or the skin, and of that factor
+abbrev pub chemical_of : Inhalation → Scenario → Contaminant → Bool → Bool → Bool
+chemical_of i s r swallowed air = swallowed && (known_of r.toxicity.sfo || known_of r.toxicity.rfdo) || inhaled_of i s r air

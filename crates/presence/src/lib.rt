@@ -3,21 +3,37 @@
 
 ghost use Rattle.std.specs.Prelude.{◌≡◌};
 ghost use Rattle.guideline_rules.specs.Pathway.{record_refusal};
-ghost use Rattle.presence.specs.Presence.{known_values, either_known, chemical_of, age_known, on_skin, Needed};
+ghost use Rattle.presence.specs.Presence.{either_known, inhaled_of, chemical_of, age_known, on_skin, Needed};
 ghost use Rattle.inputs.specs.Rules.{Checked};
 ghost use Rattle.inputs.specs.Kinds.{medium_number, class_number};
 
 use decimal::Decimal;
-use inputs::{Age, Class, Contaminant, Earlier, Medium, Scenario};
+use inputs::{Age, Class, Contaminant, Earlier, Inhalation, Medium, Scenario};
 use outcome::Refusal;
 
-// A chemical, by what is known of the ways into the body: with a slope factor (risk) or a reference dose (hazard).
-fn chemical(r: Contaminant, swallowed: bool, breathed: bool) -> bool
-    ensures { result ≡ chemical_of r swallowed breathed }
+// Inhalation of a chemical, by whether the factor from soil or water to the air is known: by intake with IRA and a slope factor
+// (risk) or a reference dose (hazard), by concentration with A and a unit risk or a reference concentration.
+fn inhaled(s: Scenario, r: Contaminant, air: bool) -> bool
+    ensures { result ≡ inhaled_of s.inhalation s r air }
+{
+    match s.inhalation {
+        Inhalation::Intake => {
+            let dose = (r.toxicity.sfi.m != 0) | (r.toxicity.rfdi.m != 0);
+            (s.contact.ira.m != 0) & air & dose
+        }
+        Inhalation::Concentration => {
+            let toxicity = (r.in_air.u.m != 0) | (r.in_air.q.m != 0);
+            air & (s.air_hours.m != 0) & toxicity
+        }
+    }
+}
+
+// A chemical, by what is known of the ways through the mouth or the skin, and of the factor to the air.
+fn chemical(s: Scenario, r: Contaminant, swallowed: bool, air: bool) -> bool
+    ensures { result ≡ chemical_of s.inhalation s r swallowed air }
 {
     let oral = (r.toxicity.sfo.m != 0) | (r.toxicity.rfdo.m != 0);
-    let inhaled = (r.toxicity.sfi.m != 0) | (r.toxicity.rfdi.m != 0);
-    (swallowed & oral) | (breathed & inhaled)
+    (swallowed & oral) | inhaled(s, r, air)
 }
 
 // Whether an age adds to G: none of its factors is zero.
@@ -43,7 +59,7 @@ fn on_skin(s: Scenario, r: Contaminant) -> bool
 // Tritium in water: ingestion, inhalation where H is known, by ET or by the shower, and skin.
 fn tritium(s: Scenario, r: Contaminant) -> bool
     requires { Needed s }
-    ensures { result ≡ either_known (known_values s r) 2 3 }
+    ensures { result ≡ either_known s.inhalation s r 2 3 }
 {
     let k = s.contact;
     let house = s.house;
@@ -63,26 +79,26 @@ fn tritium(s: Scenario, r: Contaminant) -> bool
 // and vapour, of tritium inhalation and skin.
 fn has_pathway(s: Scenario, medium: Medium, class: Class, r: Contaminant) -> bool
     requires { Needed s }
-    ensures { result ≡ either_known (known_values s r) (medium_number medium) (class_number class) }
+    ensures { result ≡ either_known s.inhalation s r (medium_number medium) (class_number class) }
 {
     let x = r.toxicity;
     let k = s.contact;
     let swallowed = k.ir.m != 0;
-    let breathed = k.ira.m != 0;
     match (class, medium) {
         (Class::Chemical, Medium::Soil) => {
             let air = (r.transfer.vf.m != 0) | (k.pef.m != 0);
-            chemical(r, swallowed | on_skin(s, r), breathed & air)
+            chemical(s, r, swallowed | on_skin(s, r), air)
         }
         (Class::Radionuclide, Medium::Soil) => {
             let oral = (x.sfo.m != 0) & swallowed;
-            let inhaled = (x.sfi.m != 0) & breathed & (k.pef.m != 0);
+            let breathed = (k.ira.m != 0) & (k.pef.m != 0);
+            let inhaled = (x.sfi.m != 0) & breathed;
             let outdoors = (x.sfx.m != 0) & (k.et.m != 0) & (k.rf.m != 0);
             oral | inhaled | outdoors
         }
         (Class::Chemical, Medium::Water) => {
             let skin = (k.sa.m != 0) & (r.transfer.pc.m != 0) & (k.et.m != 0);
-            chemical(r, swallowed | skin, breathed)
+            chemical(s, r, swallowed | skin, true)
         }
         (Class::Radionuclide, Medium::Water) => (x.sfo.m != 0) & swallowed,
         (Class::Tritium, Medium::Soil) => false,

@@ -43,7 +43,7 @@ fair_mul dir h (some f) (some g) = some (approx_mul dir f g h)
 module _ (s : Scenario) (medium : ℕ) (side : Side) (dir : Direction) where
   pub sum_bounds : (r : Contaminant) → Accepted s medium r → Fair dir total_roundings total_range (term_sum s medium r dir side) (exact_total (exact_for s r) (formulas_for s medium r side))
   unfolding term_sum
-  sum_bounds r a = total_bounds dir _ _ (values_of_lem dir s medium r a) (formulas_for s medium r side) (table_sound medium r.class side) (three_pathways medium r.class side)
+  sum_bounds r a = total_bounds dir _ _ (values_of_lem dir s medium r a) (formulas_for s medium r side) (table_sound s.inhalation medium r.class side) (three_pathways s.inhalation medium r.class side)
 
   pub concentration : (r : Contaminant) → Accepted s medium r → Fair dir 0 input_range (used_of r dir) (exact_used r)
   unfolding used_of exact_used

@@ -54,7 +54,7 @@ module _ (s : Scenario) (medium : ℕ) (water : medium ≡ medium_number Soil �
     -- the scenario's other decimals, and those of the ages
     scenario_same : all_valid (ages_decimals a) ≡ true → all_valid (ages_decimals s.ages) ≡ true → scenario_fits (with_ages a s) medium ≡ scenario_fits s medium
     scenario_same h k =
-        let others = take 20 (scenario_decimals s) in
+        let others = take 21 (scenario_decimals s) in
         ap (λ (b : Bool). one_to most_medium medium && b)
         (valid_join others (ages_decimals a) ∙ ap (λ (b : Bool). all_valid others && b) (h ∙ sym k) ∙ sym (valid_join others (ages_decimals s.ages)))
 
