@@ -14,13 +14,14 @@ use Rattle.outcome.specs.Outcome.{refusal_number, tests_number}
 use Rattle.outcome.proofs.Numbers.{not_both, same_error, refusal_numbered}
 use Rattle.outcome.proofs.Tests.{passed}
 use Rattle.words.specs.Words.{word_at}
+use Rattle.inputs.specs.Kinds.{is_header_kind}
 use Rattle.inputs.specs.declared.Contaminant.{Contaminant}
 use Rattle.inputs.specs.Inputs.{contaminant_of}
 use Rattle.inputs.specs.Rules.{scenario_fits, contaminant_fits, lacks_factor}
 use Rattle.inputs.proofs.Tests.{and_split}
 use Rattle.block_rules.specs.declared.Header.{Header}
 use Rattle.block_rules.specs.Rules.{count_ok}
-use Rattle.block_rules.specs.Reading.{scenario_at, header_at, header_unused, contaminant_at, contaminant_unused, sound_at}
+use Rattle.block_rules.specs.Reading.{inhalation_in, scenario_at, header_at, header_unused, contaminant_at, contaminant_unused, sound_at}
 use Rattle.block_rules.specs.Reading.{header_read, contaminant_read, header_value, contaminant_value}
 
 -- ---- a contaminant
@@ -46,7 +47,7 @@ contaminant_facts b place previous r e =
 
 -- ---- a header
 pub record HeaderFacts (b : List ℕ) (blocks : ℕ) (h : Header) : Type 0 where
-  pub is : h ≡ header_at b 8
+  pub is : h ≡ header_at (inhalation_in b) b 8
   pub valid : scenario_fits h.scenario h.medium ≡ true
   pub count : count_ok h.count blocks ≡ true
   pub factors : lacks_factor h.scenario ≡ false
@@ -56,14 +57,14 @@ unfolding header_read header_at
 header_facts b blocks h e =
     let e₁ = (passed (not (eqb (length b) 512)) Length e).1 in
     let e₂ = (passed (not (sound_at b 0)) Check e₁).1 in
-    let e₃ = (passed (not (eqb (word_at b 0) 1)) Kind e₂).1 in
-    let e₄ = passed (not (scenario_fits (scenario_at b 16) (word_at b 8) && header_unused b 8)) Field e₃ in
+    let e₃ = (passed (not (is_header_kind (word_at b 0))) Kind e₂).1 in
+    let e₄ = passed (not (scenario_fits (scenario_at (inhalation_in b) b 16) (word_at b 8) && header_unused b 8)) Field e₃ in
     let e₅ = passed (not (count_ok (word_at b 12) blocks)) Count e₄.1 in
-    let e₆ = passed (lacks_factor (scenario_at b 16)) Factor e₅.1 in
-    let same : header_at b 8 ≡ h = cc e₆.1 in
+    let e₆ = passed (lacks_factor (scenario_at (inhalation_in b) b 16)) Factor e₅.1 in
+    let same : header_at (inhalation_in b) b 8 ≡ h = cc e₆.1 in
     record {
       is = sym same;
-      valid = ap (λ (x : Header). scenario_fits x.scenario x.medium) (sym same) ∙ (and_split (scenario_fits (scenario_at b 16) (word_at b 8)) (header_unused b 8) (not-false _ e₄.0)).0;
+      valid = ap (λ (x : Header). scenario_fits x.scenario x.medium) (sym same) ∙ (and_split (scenario_fits (scenario_at (inhalation_in b) b 16) (word_at b 8)) (header_unused b 8) (not-false _ e₄.0)).0;
       count = ap (λ (x : Header). count_ok x.count blocks) (sym same) ∙ not-false _ e₅.0;
       factors = ap (λ (x : Header). lacks_factor x.scenario) (sym same) ∙ e₆.0;
     }
@@ -94,10 +95,10 @@ unfolding header_read
 header_sent b blocks =
     sent_first (not (eqb (length b) 512)) Length _ (record { least = omega arith; most = omega arith })
     (sent_first (not (sound_at b 0)) Check _ (record { least = omega arith; most = omega arith })
-    (sent_first (not (eqb (word_at b 0) 1)) Kind _ (record { least = omega arith; most = omega arith })
-    (sent_first (not (scenario_fits (scenario_at b 16) (word_at b 8) && header_unused b 8)) Field _ (record { least = omega arith; most = omega arith })
+    (sent_first (not (is_header_kind (word_at b 0))) Kind _ (record { least = omega arith; most = omega arith })
+    (sent_first (not (scenario_fits (scenario_at (inhalation_in b) b 16) (word_at b 8) && header_unused b 8)) Field _ (record { least = omega arith; most = omega arith })
     (sent_first (not (count_ok (word_at b 12) blocks)) Count _ (record { least = omega arith; most = omega arith })
-    (sent_first (lacks_factor (scenario_at b 16)) Factor (Ok (header_at b 8)) (record { least = omega arith; most = omega arith })
+    (sent_first (lacks_factor (scenario_at (inhalation_in b) b 16)) Factor (Ok (header_at (inhalation_in b) b 8)) (record { least = omega arith; most = omega arith })
     (λ y e. absurd (not_both e)))))))
 
 -- so its number is never 0

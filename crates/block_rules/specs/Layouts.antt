@@ -1,9 +1,10 @@
--- The four kinds of block as 512 bytes (docs/FORMAT.md).
+-- The blocks as 512 bytes (docs/FORMAT.md).
 use Rattle.std.specs.Prelude.{ℕ, ◌-◌, ◌%◌, List, [], ◌∷◌, ◌++◌}
 use Rattle.words.specs.Words.{word_sum}
 use Rattle.words.specs.Bytes.{le4}
 use Rattle.decimal.specs.declared.Decimal.{Decimal}
 use Rattle.inputs.specs.declared.Contaminant.{Contaminant}
+use Rattle.inputs.specs.Kinds.{header_kind}
 use Rattle.inputs.specs.Inputs.{scenario_decimals, contaminant_decimals}
 use Rattle.block_rules.specs.declared.Header.{Header}
 use Rattle.block_rules.specs.Pieces.{Piece, bytes_of, header_pieces, contaminant_pieces, result_pieces, summary_pieces}
@@ -24,9 +25,9 @@ body_of kind place ps ws ds = le4 kind ++ (le4 place ++ bytes_of ps ws ds)
 unfoldable pub block_of : ℕ → ℕ → List Piece → List ℕ → List Decimal → List ℕ
 block_of kind place ps ws ds = body_of kind place ps ws ds ++ le4 (last_word (body_of kind place ps ws ds))
 
--- kind 1, header, place 0
+-- a header, place 0: kind 1 where inhalation is by intake, 6 by concentration
 unfoldable pub header_block : Header → List ℕ
-header_block h = block_of 1 0 header_pieces (h.medium ∷ h.count ∷ []) (scenario_decimals h.scenario)
+header_block h = block_of (header_kind h.scenario.inhalation) 0 header_pieces (h.medium ∷ h.count ∷ []) (scenario_decimals h.scenario)
 
 -- kind 2, contaminant
 unfoldable pub contaminant_block : ℕ → Contaminant → List ℕ

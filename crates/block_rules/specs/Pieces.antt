@@ -12,16 +12,16 @@ pub data Piece : Type 0 where
   Decimals : ℕ → Piece
   Unused : ℕ → Piece
 
--- a gap of 24 bytes, n decimals behind it, and so many unused bytes
-abbrev pub behind_gap : ℕ → ℕ → List Piece
-behind_gap n rest = Unused 24 ∷ Decimals n ∷ Unused rest ∷ []
+-- a gap of so many bytes, n decimals behind it, and so many unused bytes
+abbrev pub behind_gap : ℕ → ℕ → ℕ → List Piece
+behind_gap gap n rest = Unused gap ∷ Decimals n ∷ Unused rest ∷ []
 
 -- a scenario, from byte 16 on of kind 1, and a contaminant's decimals, from byte 16 on of kind 2
 abbrev pub scenario_pieces : List Piece
-scenario_pieces = Decimals 20 ∷ behind_gap 9 236
+scenario_pieces = Decimals 20 ∷ behind_gap 16 10 236
 
 abbrev pub value_pieces : List Piece
-value_pieces = Decimals 9 ∷ behind_gap 1 388
+value_pieces = Decimals 9 ∷ behind_gap 8 3 388
 
 -- kind 1: medium, count, the scenario
 abbrev pub header_pieces : List Piece

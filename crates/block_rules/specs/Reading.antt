@@ -3,6 +3,8 @@ use Rattle.std.specs.Prelude.{ℕ, ◌+◌, ◌%◌, List, Bool, ◌&&◌, not, 
 use Rattle.outcome.specs.declared.Refusal.TheVariants.{Length, Check, Kind, Field, Count, Factor, Order}
 use Rattle.outcome.specs.declared.Refusal.{Refusal}
 use Rattle.words.specs.Words.{word_at, word_sum}
+use Rattle.inputs.specs.declared.kind.Inhalation.{Inhalation}
+use Rattle.inputs.specs.Kinds.{is_header_kind, inhalation_of}
 use Rattle.inputs.specs.declared.Scenario.{Scenario}
 use Rattle.inputs.specs.declared.Contaminant.{Contaminant}
 use Rattle.inputs.specs.Inputs.{scenario_of, contaminant_of}
@@ -12,13 +14,17 @@ use Rattle.block_rules.specs.declared.Header.{Header}
 use Rattle.block_rules.specs.Rules.{count_ok, block_size}
 use Rattle.block_rules.specs.Pieces.{scenario_pieces, value_pieces, header_pieces, contaminant_pieces, decimals_in, unused_in}
 
--- the scenario whose first decimal stands at `at`
-unfoldable pub scenario_at : List ℕ → ℕ → Scenario
-scenario_at s at = scenario_of (decimals_in scenario_pieces s at)
+-- the scenario whose first decimal stands at `at`, with inhalation worked out so
+unfoldable pub scenario_at : Inhalation → List ℕ → ℕ → Scenario
+scenario_at i s at = scenario_of i (decimals_in scenario_pieces s at)
 
 -- a header whose medium stands at `at`: in a block at 8
-unfoldable pub header_at : List ℕ → ℕ → Header
-header_at s at = record { medium = word_at s at; count = word_at s (at + 4); scenario = scenario_at s (at + 8) }
+unfoldable pub header_at : Inhalation → List ℕ → ℕ → Header
+header_at i s at = record { medium = word_at s at; count = word_at s (at + 4); scenario = scenario_at i s (at + 8) }
+
+-- how it is worked out, which the kind of the header block b tells
+abbrev pub inhalation_in : List ℕ → Inhalation
+inhalation_in b = inhalation_of (word_at b 0)
 
 -- its unused bytes are zero
 unfoldable pub header_unused : List ℕ → ℕ → Bool
@@ -41,11 +47,11 @@ unfoldable pub header_read : List ℕ → ℕ → Result Header Refusal
 header_read b blocks =
     cond (not (eqb (length b) block_size)) (Err Length)
     (cond (not (sound_at b 0)) (Err Check)
-    (cond (not (eqb (word_at b 0) 1)) (Err Kind)
-    (cond (not (scenario_fits (scenario_at b 16) (word_at b 8) && header_unused b 8)) (Err Field)
+    (cond (not (is_header_kind (word_at b 0))) (Err Kind)
+    (cond (not (scenario_fits (scenario_at (inhalation_in b) b 16) (word_at b 8) && header_unused b 8)) (Err Field)
     (cond (not (count_ok (word_at b 12) blocks)) (Err Count)
-    (cond (lacks_factor (scenario_at b 16)) (Err Factor)
-    (Ok (header_at b 8)))))))
+    (cond (lacks_factor (scenario_at (inhalation_in b) b 16)) (Err Factor)
+    (Ok (header_at (inhalation_in b) b 8)))))))
 
 -- the contaminant block b at a place, after the previous id: what it holds, or 2, 3, 4, 7
 unfoldable pub contaminant_read : List ℕ → ℕ → ℕ → Result Contaminant Refusal

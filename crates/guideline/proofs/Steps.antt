@@ -38,8 +38,8 @@ sides {dir} {f} {t} {fs} {k} {vs} e h = subst (λ (l : List Decimal). SideStands
 pub record TermsOf (s : Scenario) (medium : ℕ) (r : Contaminant) (f : Factors) (t : ContaminantNumbers) (k : Terms) : Type 0 where
   pub inputs : Accepted s medium r
   pub factors : FactorsFor s f
-  pub numbers : NumbersFor r t
-  pub terms : TermsFor Up f t medium r.class k
+  pub numbers : NumbersFor s.inhalation r t
+  pub terms : TermsFor Up f t s.inhalation medium r.class k
 
 module _ {s : Scenario} {medium : ℕ} {r : Contaminant} {f : Factors} {t : ContaminantNumbers} {k : Terms} (h : TermsOf s medium r f t k) where
   same : number_values Up f t ≡ values_for Up s r
@@ -68,10 +68,10 @@ module _ {s : Scenario} {medium : ℕ} {r : Contaminant} {f : Factors} {t : Cont
   vs = values_for Up s r
 
   risk_three : length (formulas_for s medium r Risk) ≡ 3
-  risk_three = three_pathways medium r.class Risk
+  risk_three = three_pathways s.inhalation medium r.class Risk
 
   hazard_three : length (formulas_for s medium r Hazard) ≡ 3
-  hazard_three = three_pathways medium r.class Hazard
+  hazard_three = three_pathways s.inhalation medium r.class Hazard
 
   risk_column : ColumnStands vs (working_target s Risk) (formulas_for s medium r Risk) x
   risk_column =

@@ -127,8 +127,16 @@ fn worked_out(s: Scenario, medium: u32, r: Contaminant) -> Guidelines
     let class = Class::of(r.class);
     let f = factors::numbers::scenario_numbers(s);
     let p = factors::prepared::prepare(&f, soil_or_water, Direction::Up);
-    let t = factors::numbers::contaminant_numbers(r);
-    let side = terms::pathways::terms_of(&f, &p, &t, soil_or_water, class, Direction::Up);
+    let t = factors::numbers::contaminant_numbers(r, s.inhalation);
+    let side = terms::pathways::terms_of(
+        &f,
+        &p,
+        &t,
+        soil_or_water,
+        s.inhalation,
+        class,
+        Direction::Up,
+    );
     let columns = columns_of(f.targets, side);
     decimals(columns, medium, r)
 }

@@ -44,10 +44,10 @@ total_from s = sum_of Down (sum_of Down s.first s.second) s.third
 
 pub record WorkedFor (p : Plan) (r : Contaminant) (w : Worked) : Type 0 where
   pub numbers : ContaminantNumbers
-  pub stands : NumbersFor r numbers
+  pub stands : NumbersFor p.scenario.inhalation r numbers
   pub below : Terms
-  pub upper_terms : TermsFor Up p.factors numbers p.medium r.class w.above
-  pub lower_terms : TermsFor Down p.factors numbers p.medium r.class below
+  pub upper_terms : TermsFor Up p.factors numbers p.scenario.inhalation p.medium r.class w.above
+  pub lower_terms : TermsFor Down p.factors numbers p.scenario.inhalation p.medium r.class below
   pub risk : w.risk ≡ total_from below.risk
   pub hazard : w.hazard ≡ total_from below.hazard
   pub risk_size : TotalSize w.risk

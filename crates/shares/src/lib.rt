@@ -83,12 +83,14 @@ impl Plan {
     {
         let medium = Medium::of(self.medium);
         let class = Class::of(r.class);
-        let x = factors::numbers::contaminant_numbers(r);
+        let inhalation = self.scenario.inhalation;
+        let x = factors::numbers::contaminant_numbers(r, inhalation);
         let above = terms::pathways::terms_of(
             &self.factors,
             &self.up,
             &x,
             medium,
+            inhalation,
             class,
             Direction::Up,
         );
@@ -97,6 +99,7 @@ impl Plan {
             &self.down,
             &x,
             medium,
+            inhalation,
             class,
             Direction::Down,
         );

@@ -46,7 +46,7 @@ module _ (dir : Direction) {s : Scenario} {medium : ℕ} {r : Contaminant} {side
   unfolding term_sum
   sum_is =
       subst (λ (n : Number). Stands (formula_width + 2) n (term_sum s medium r dir side)) (sym h.sum)
-      (sum_stands dir _ (formulas_for s medium r side) t (three_pathways medium r.class side) h.terms)
+      (sum_stands dir _ (formulas_for s medium r side) t (three_pathways s.inhalation medium r.class side) h.terms)
 
   -- with the share added, the sum stands for the next running sum
   sum_next : {c m n : Number} {w : ℕ} (x : Running) → Stands input_width c (used_of r dir) → share_width ≤ w → w ≤ sum_width →
@@ -64,8 +64,8 @@ module _ {s : Scenario} {medium : ℕ} {r : Contaminant} {side : Side} {above be
   unfolding has_pathway term_sum
   has_pathway_lem =
       ap not (stands_zero (sum_is Up h.above)) ∙
-      any_total _ _ (values_of_lem Up s medium r h.accepted) (formulas_for s medium r side) (table_sound medium r.class side)
-      (three_pathways medium r.class side)
+      any_total _ _ (values_of_lem Up s medium r h.accepted) (formulas_for s medium r side) (table_sound s.inhalation medium r.class side)
+      (three_pathways s.inhalation medium r.class side)
 
   -- ---- one step
   module _ {w : ℕ} (low : share_width ≤ w) (high : w ≤ sum_width) {x y : SideRun} (ready : SideReady w x) (e : Shared x c lower upper y) where

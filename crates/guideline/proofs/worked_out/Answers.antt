@@ -6,6 +6,7 @@ use Rattle.inputs.specs.declared.Contaminant.{Contaminant}
 use Rattle.factors.specs.declared.numbers.Factors.{Factors}
 use Rattle.factors.specs.declared.numbers.ContaminantNumbers.{ContaminantNumbers}
 use Rattle.factors.specs.Stands.{FactorsFor, NumbersFor}
+use Rattle.inputs.proofs.Tests.{contaminant_parts}
 use Rattle.factors.proofs.StandsLaws.{all_own}
 use Rattle.terms.specs.Side.{Terms}
 use Rattle.terms.specs.Side.{TermsFor}
@@ -20,11 +21,11 @@ use Rattle.guideline.proofs.worked_out.Goals as goal
 module _ {s : Scenario} {medium : ℕ} {r : Contaminant} {m n : ℕ}
     (a : m ≡ medium) (b : n ≡ r.class) (i : Accepted s medium r)
     {f : Factors} {t : ContaminantNumbers} {k : Terms} where
-  terms_worked : FactorsFor s f → NumbersFor r t → TermsFor Up f t m n k → TermsOf s medium r f t k
+  terms_worked : FactorsFor s f → NumbersFor s.inhalation r t → TermsFor Up f t s.inhalation m n k → TermsOf s medium r f t k
   terms_worked g l u =
       record { inputs = i; factors = g; numbers = l; terms = terms_at a b u }
 
-  columns_filled : FactorsFor s f → NumbersFor r t → TermsFor Up f t m n k → {v w : Column} →
+  columns_filled : FactorsFor s f → NumbersFor s.inhalation r t → TermsFor Up f t s.inhalation m n k → {v w : Column} →
       ColumnFor f.targets.tr k.risk v × ColumnFor f.targets.thi k.hazard w → ColumnsOf s medium r f t k v w
   columns_filled g l u q = record { terms = terms_worked g l u; risk = q.0; hazard = q.1 }
 
@@ -37,6 +38,9 @@ of-class-requires c = c.requires.class
 
 pub prepare-p-requires : goal.prepare-p-requires
 prepare-p-requires c = all_own c.scenario_numbers-f.ensures
+
+pub contaminant_numbers-t-requires : goal.contaminant_numbers-t-requires
+contaminant_numbers-t-requires c = (contaminant_parts c.args.r c.requires.contaminant).formulas _
 
 pub terms_of-side-requires : goal.terms_of-side-requires
 terms_of-side-requires c = ready refl c.prepare-p.ensures c.scenario_numbers-f.ensures c.contaminant_numbers-t.ensures

@@ -12,7 +12,7 @@ pub of-class-requires : goal.of-class-requires
 of-class-requires c = (inputs_of_lem c.requires).class
 
 pub contaminant_numbers-x-requires : goal.contaminant_numbers-x-requires
-contaminant_numbers-x-requires c = (contaminant_parts c.args.r (inputs_of_lem c.requires).contaminant).formulas
+contaminant_numbers-x-requires c = (contaminant_parts c.args.r (inputs_of_lem c.requires).contaminant).formulas _
 
 pub terms_of-above-requires : goal.terms_of-above-requires
 terms_of-above-requires c = ready c.of-medium.ensures c.args.self.now.ready.up c.args.self.now.ready.factors c.contaminant_numbers-x.ensures
