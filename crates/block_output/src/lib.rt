@@ -33,18 +33,19 @@ fn put_first_words(out: &mut [u8], kind: u32, place: u32, a: u32, b: u32)
     words::put(out, 12, b);
 }
 
-// Writes a block of kind 1.
+// Writes the block of a header: of kind 1 where inhalation is by intake, of 6 by concentration.
 pub fn put_header(out: &mut [u8], h: Header)
     requires { block_size ≤ length out.old }
     ensures { out.new ≡ over (header_block h) out.old }
 {
     let s = h.scenario;
-    put_first_words(out, 1, 0, h.medium, h.count);
+    put_first_words(out, s.inhalation.kind(), 0, h.medium, h.count);
     fields::put_all(out, 16, s.exposure.into());
     fields::put_all(out, 48, s.contact.into());
     fields::put_all(out, 96, s.targets.into());
     fields::put_all(out, 112, s.house.into());
-    words::clear(out, 176, 24);
+    words::clear(out, 176, 16);
+    fields::put(out, 192, s.air_hours);
     fields::put_all(out, 200, s.ages.into());
     words::clear(out, 272, 236);
     put_last_word(out, 68);
@@ -59,8 +60,8 @@ pub fn put_contaminant(out: &mut [u8], place: u32, r: Contaminant)
     fields::put_all(out, 16, r.toxicity.into());
     fields::put_all(out, 56, r.transfer.into());
     fields::put_all(out, 72, [r.c, r.saturation]);
-    words::clear(out, 88, 24);
-    fields::put(out, 112, r.abs);
+    words::clear(out, 88, 8);
+    fields::put_all(out, 96, [r.in_air.u, r.in_air.q, r.abs]);
     words::clear(out, 120, 388);
     put_last_word(out, 30);
 }

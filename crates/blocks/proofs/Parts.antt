@@ -9,6 +9,7 @@ use lib.Dec.{eqb, leb}
 use borrow.Author.Tests.{ne_eqb, eqb-true, leb-true, leb-false}
 use Rattle.words.specs.Words.{part_of}
 use Rattle.words.proofs.Parts.{word_part, part_part}
+use Rattle.inputs.specs.declared.kind.Inhalation.{Inhalation}
 use Rattle.inputs.specs.Inputs.{scenario_of, contaminant_of}
 use Rattle.block_rules.specs.Pieces.{scenario_pieces, value_pieces, header_pieces, contaminant_pieces}
 use Rattle.block_rules.specs.Reading.{scenario_at, header_at, header_unused, contaminant_at, contaminant_unused}
@@ -16,13 +17,13 @@ use Rattle.block_rules.proofs.Pieces.{unused_in_part, decimals_in_part}
 use Rattle.block_rules.proofs.Rules.{is_block}
 
 module _ (b : List ℕ) where
-  scenario_part : scenario_at (part_of b 4 504) 12 ≡ scenario_at b 16
+  scenario_part : (i : Inhalation) → scenario_at i (part_of b 4 504) 12 ≡ scenario_at i b 16
   unfolding scenario_at
-  scenario_part = ap scenario_of (decimals_in_part scenario_pieces b 4 504 12 (omega arith))
+  scenario_part i = ap (scenario_of i) (decimals_in_part scenario_pieces b 4 504 12 (omega arith))
 
-  pub header_part : header_at (part_of b 4 504) 4 ≡ header_at b 8
+  pub header_part : (i : Inhalation) → header_at i (part_of b 4 504) 4 ≡ header_at i b 8
   unfolding header_at
-  header_part = λ i. record { medium = word_part b 4 504 4 (omega arith) i; count = word_part b 4 504 8 (omega arith) i; scenario = scenario_part i }
+  header_part i = λ k. record { medium = word_part b 4 504 4 (omega arith) k; count = word_part b 4 504 8 (omega arith) k; scenario = scenario_part i k }
 
   pub header_unused_part : header_unused (part_of b 4 504) 4 ≡ header_unused b 8
   unfolding header_unused

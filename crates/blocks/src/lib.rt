@@ -8,7 +8,7 @@ ghost use Rattle.block_rules.specs.Rules.{in_file, count_ok, block_size, struct_
 ghost use Rattle.block_rules.specs.Reading.{scenario_at, header_at, contaminant_at, header_unused, contaminant_unused, sound_at, header_read, contaminant_read};
 
 use block_rules::{BLOCK_SIZE, Header};
-use inputs::{Contaminant, MOST_CONTAMINANTS, Scenario};
+use inputs::{Contaminant, Inhalation, MOST_CONTAMINANTS, Scenario};
 use outcome::Refusal;
 
 // Whether a count or a place is from 1 to 120.
@@ -50,44 +50,46 @@ fn sound(block: &[u8], place: u32) -> bool
     (sum == 0) & (found == place)
 }
 
-// The scenario whose first decimal stands at `at`.
-fn get_scenario(part: &[u8], at: usize) -> Scenario
+// The scenario whose first decimal stands at `at`, with inhalation worked out so.
+fn get_scenario(part: &[u8], at: usize, inhalation: Inhalation) -> Scenario
     requires { at + 256 ≤ length part.now }
-    ensures { result ≡ scenario_at part.now at }
+    ensures { result ≡ scenario_at inhalation part.now at }
 {
     Scenario {
         exposure: fields::read_all(part, at).into(),
         contact: fields::read_all(part, at + 32).into(),
         targets: fields::read_all(part, at + 80).into(),
         house: fields::read_all(part, at + 96).into(),
+        air_hours: fields::read(part, at + 176),
         ages: fields::read_all(part, at + 184).into(),
+        inhalation,
     }
 }
 
 // The header whose medium stands at `at`: in the 504 bytes between kind and last word at 4, in a struct of C at 0.
-pub fn get_header(part: &[u8], at: usize) -> Header
+pub fn get_header(part: &[u8], at: usize, inhalation: Inhalation) -> Header
     requires { at + 264 ≤ length part.now }
-    ensures { result ≡ header_at part.now at }
+    ensures { result ≡ header_at inhalation part.now at }
 {
     Header {
         medium: words::word(part, at),
         count: words::word(part, at + 4),
-        scenario: get_scenario(part, at + 8),
+        scenario: get_scenario(part, at + 8, inhalation),
     }
 }
 
-// Whether the unused bytes are zero from the gap of 24 bytes at `at` on, behind which n decimals and so many further bytes stand. It
+// Whether the unused bytes are zero from a gap at `at` on, behind which n decimals and so many further bytes stand. It
 // stands by itself, so that blocks with nothing there do not pay for it.
 #[cold]
 #[inline(never)]
-fn gap_unused(part: &[u8], at: usize, n: usize, rest: usize) -> bool
-    requires { at + (24 + (8 * n + rest)) ≤ length part.now }
-    ensures { result ≡ unused_in (behind_gap n rest) part.now at }
+fn gap_unused(part: &[u8], at: usize, gap: usize, n: usize, rest: usize) -> bool
+    requires { at + (gap + (8 * n + rest)) ≤ length part.now }
+    ensures { result ≡ unused_in (behind_gap gap n rest) part.now at }
 {
-    let gap = words::all_zero(part, at, 24);
-    let later = fields::unused_zero(part, at + 24, n);
-    let end = at + 24 + 8 * n;
-    gap & later & words::all_zero(part, end, rest)
+    let before = words::all_zero(part, at, gap);
+    let later = fields::unused_zero(part, at + gap, n);
+    let end = at + gap + 8 * n;
+    before & later & words::all_zero(part, end, rest)
 }
 
 // Whether the unused bytes of a header are zero. Where all bytes behind the house are, one test is enough.
@@ -99,7 +101,7 @@ pub fn header_unused(part: &[u8], at: usize) -> bool
     if words::all_zero(part, at + 168, 332) {
         return before;
     }
-    before & gap_unused(part, at + 168, 9, 236)
+    before & gap_unused(part, at + 168, 16, 10, 236)
 }
 
 // The contaminant whose class stands at `at`: in the 504 bytes between kind and last word at 4, in a struct of C at 0.
@@ -114,6 +116,7 @@ pub fn get_contaminant(part: &[u8], at: usize) -> Contaminant
         transfer: fields::read_all(part, at + 48).into(),
         c: fields::read(part, at + 64),
         saturation: fields::read(part, at + 72),
+        in_air: fields::read_all(part, at + 88).into(),
         abs: fields::read(part, at + 104),
     }
 }
@@ -127,7 +130,7 @@ pub fn contaminant_unused(part: &[u8], at: usize) -> bool
     if words::all_zero(part, at + 80, 420) {
         return before;
     }
-    before & gap_unused(part, at + 80, 1, 388)
+    before & gap_unused(part, at + 80, 8, 3, 388)
 }
 
 // The header of a site of so many blocks: its first 512 bytes.
@@ -140,11 +143,12 @@ pub fn read_header(site: &[u8], blocks: u32) -> Result<Header, Refusal>
     if !sound(&site[0..BLOCK_SIZE], 0) {
         return Err(Refusal::Check);
     }
-    if words::word(site, 0) != 1 {
+    let kind = words::word(site, 0);
+    if !inputs::is_header_kind(kind) {
         return Err(Refusal::Kind);
     }
     let part = &site[4..508];
-    let h = get_header(part, 4);
+    let h = get_header(part, 4, Inhalation::of(kind));
     let s = h.scenario;
     let fit = inputs::scenario_fits(s, h.medium) & header_unused(part, 4);
     if !fit {

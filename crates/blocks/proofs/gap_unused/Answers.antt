@@ -6,4 +6,4 @@ use Rattle.blocks.proofs.gap_unused.Goals as goal
 
 pub returns : goal.returns
 unfolding unused_in
-returns c = simp (add_assoc, and-true, and_assoc, c.all_zero-gap.ensures, c.unused_zero-later.ensures, c.all_zero.ensures)
+returns c = simp (add_assoc, and-true, and_assoc, c.all_zero-before.ensures, c.unused_zero-later.ensures, c.all_zero.ensures)

@@ -15,4 +15,4 @@ returns c =
     let targets = ap targets_of (c.into-3.ensures ∙ c.read_all-3.ensures) in
     let house = ap house_of (c.into-4.ensures ∙ c.read_all-4.ensures) in
     let ages = ap ages_of (c.into-5.ensures ∙ c.read_all-5.ensures) in
-    simp (add_assoc, exposure, contact, targets, house, ages)
+    simp (add_assoc, exposure, contact, targets, house, c.read.ensures, ages)

@@ -10,9 +10,9 @@ pub returns-then-all_zero : goal.returns-then-all_zero
 unfolding header_unused
 returns-then-all_zero c =
     let zero = sym c.all_zero.ensures ∙ c.if-all_zero.true in
-    c.unused_zero-before.ensures ∙ sym (zeros_behind 20 (behind_gap 9 236) c.args.part.now c.args.at zero)
+    c.unused_zero-before.ensures ∙ sym (zeros_behind 20 (behind_gap 16 10 236) c.args.part.now c.args.at zero)
 
 pub returns : goal.returns
 unfolding header_unused
 returns c =
-    ap₂ (λ (x y : Bool). x && y) c.unused_zero-before.ensures c.gap_unused.ensures ∙ sym (behind_first 20 (behind_gap 9 236) c.args.part.now c.args.at)
+    ap₂ (λ (x y : Bool). x && y) c.unused_zero-before.ensures c.gap_unused.ensures ∙ sym (behind_first 20 (behind_gap 16 10 236) c.args.part.now c.args.at)

@@ -1,10 +1,11 @@
 -- `blocks::read_header`: the tests in the order of the definition, each on the part that the definition names.
-use Rattle.std.proofs.Common.{◌≡◌, ◌≤◌, ◌+◌, ℕ, List, Bool, true, false, length, eqb, rules, refl, sym, ◌∙◌}
+use Rattle.std.proofs.Common.{◌≡◌, ◌≤◌, ◌+◌, ℕ, List, Bool, true, false, length, eqb, rules, refl, sym, ap, take, drop, ◌∙◌}
 use mathlib.Core.Bool.{◌&&◌}
-use borrow.Author.Tests.{ne_eqb}
 use Rattle.words.specs.Words.{part_of}
+use Rattle.inputs.specs.declared.kind.Inhalation.{Inhalation}
+use Rattle.inputs.specs.Kinds.{is_header_kind}
 use Rattle.inputs.specs.Rules.{scenario_fits}
-use Rattle.block_rules.specs.Reading.{header_at, header_unused}
+use Rattle.block_rules.specs.Reading.{inhalation_in, header_at, header_unused}
 use Rattle.blocks.proofs.Parts.{block_fits}
 use Rattle.blocks.proofs.Answers.{Passed, sound_here, kind_here, passed_here, header_here, header_fields_here}
 use Rattle.blocks.proofs.Answers.{header_short, header_check, header_kind, header_field, header_count, header_factor, header_found}
@@ -24,12 +25,15 @@ room c = block_fits c.args.site.now 0 (long c)
 abbrev block : After-header_unused → List ℕ
 block c = part_of c.args.site.now 0 512
 
-passed : (c : After-header_unused) → Passed (block c) 0 1
+passed : (c : After-header_unused) → Passed (block c) 0 is_header_kind
 passed c =
-    passed_here c.args.site.now 0 c.has_block.ensures c.if-not-has_block.false c.sound.ensures c.if-not-sound.false c.word.ensures c.if-word-ne1.false
+    passed_here c.args.site.now 0 is_header_kind c.has_block.ensures c.if-not-has_block.false c.sound.ensures c.if-not-sound.false
+    c.word-kind.ensures (sym c.is_header_kind.ensures ∙ c.if-not-is_header_kind.false)
 
-is : (c : After-header_unused) → c.get_header-h.result ≡ header_at (block c) 8
-is c = header_here c.args.site.now c.get_header-h.result c.get_header-h.ensures
+is : (c : After-header_unused) → c.get_header-h.result ≡ header_at (inhalation_in (block c)) (block c) 8
+is c =
+    header_here c.args.site.now c.get_header-h.result c.word-kind.ensures
+    (c.get_header-h.ensures ∙ ap (λ (i : Inhalation). header_at i (take 504 (drop 4 c.args.site.now)) 4) c.of.ensures)
 
 fields_fit : (c : After-header_unused) (t : Bool) → c.scenario_fits.result && c.header_unused.result ≡ t
     → scenario_fits c.get_header-h.result.scenario c.get_header-h.result.medium && header_unused (block c) 8 ≡ t
@@ -48,11 +52,11 @@ returns-then-not-sound c =
     let here = (goal.at.returns-then-not-sound c).Else-not-has_block in
     header_check (bytes here) c.args.blocks (long here) (sound_here c.args.site.now 0 0 _ c.sound.ensures ∙ c.if-not-sound.true)
 
-pub returns-then-word-ne1 : goal.returns-then-word-ne1
-returns-then-word-ne1 c =
-    let here = (goal.at.returns-then-word-ne1 c).Else-not-has_block in
+pub returns-then-not-is_header_kind : goal.returns-then-not-is_header_kind
+returns-then-not-is_header_kind c =
+    let here = (goal.at.returns-then-not-is_header_kind c).Else-not-has_block in
     header_kind (bytes here) c.args.blocks (long here) (sound_here c.args.site.now 0 0 _ c.sound.ensures ∙ c.if-not-sound.false)
-    (kind_here c.args.site.now 0 1 _ false c.word.ensures (ne_eqb _ _ c.if-word-ne1.true))
+    (kind_here c.args.site.now 0 is_header_kind _ false c.word-kind.ensures (sym c.is_header_kind.ensures ∙ c.if-not-is_header_kind.true))
 
 pub slice_bounds-part-end : goal.slice_bounds-part-end
 slice_bounds-part-end c = let h = room (goal.at.slice_bounds-part-end c).Else-not-has_block in search rules
