@@ -34,6 +34,10 @@ header_unused s at = unused_in header_pieces s at
 unfoldable pub contaminant_at : List ℕ → ℕ → Contaminant
 contaminant_at s at = contaminant_of (word_at s at) (word_at s (at + 4)) (decimals_in value_pieces s (at + 8))
 
+-- the kind of its block
+abbrev pub is_contaminant_kind : ℕ → Bool
+is_contaminant_kind n = eqb n 2
+
 -- its unused bytes are zero
 unfoldable pub contaminant_unused : List ℕ → ℕ → Bool
 contaminant_unused s at = unused_in contaminant_pieces s at
@@ -58,7 +62,7 @@ unfoldable pub contaminant_read : List ℕ → ℕ → ℕ → Result Contaminan
 contaminant_read b place previous =
     cond (not (eqb (length b) block_size)) (Err Length)
     (cond (not (sound_at b place)) (Err Check)
-    (cond (not (eqb (word_at b 0) 2)) (Err Kind)
+    (cond (not (is_contaminant_kind (word_at b 0))) (Err Kind)
     (cond (not (contaminant_fits (contaminant_at b 8) && contaminant_unused b 8)) (Err Field)
     (cond (leb (word_at b 12) previous) (Err Order)
     (Ok (contaminant_at b 8))))))

@@ -16,7 +16,7 @@ use Rattle.inputs.specs.Inputs.{contaminant_of}
 use Rattle.inputs.specs.Rules.{scenario_fits, contaminant_fits, lacks_factor}
 use Rattle.block_rules.specs.declared.Header.{Header}
 use Rattle.block_rules.specs.Rules.{count_ok}
-use Rattle.block_rules.specs.Reading.{inhalation_in, scenario_at, header_at, header_unused, contaminant_at, contaminant_unused, sound_at, header_read, contaminant_read}
+use Rattle.block_rules.specs.Reading.{inhalation_in, is_contaminant_kind, scenario_at, header_at, header_unused, contaminant_at, contaminant_unused, sound_at, header_read, contaminant_read}
 use Rattle.blocks.proofs.Parts.{inner, inner_first, whole, contaminant_part, contaminant_unused_part, header_part, header_unused_part}
 
 -- the first three tests are passed, the third by a block of such a kind
@@ -77,7 +77,7 @@ module _ (b : List ℕ) (place previous : ℕ) where
   unfolding contaminant_read
   contaminant_kind n s k = simp (n, s, k)
 
-  module _ (p : Passed b place (λ (n : ℕ). eqb n 2)) (r : Contaminant) (is : r ≡ contaminant_at b 8) where
+  module _ (p : Passed b place is_contaminant_kind) (r : Contaminant) (is : r ≡ contaminant_at b 8) where
     pub contaminant_field : contaminant_fits r && contaminant_unused b 8 ≡ false → Err Field ≡ contaminant_read b place previous
     unfolding contaminant_read
     contaminant_field h = let f = rw is at h in simp (p.long, p.sound, p.first, f)

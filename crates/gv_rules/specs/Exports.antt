@@ -4,6 +4,7 @@ use Rattle.outcome.specs.declared.Refused.{Refused}
 use Rattle.outcome.specs.declared.Refusal.TheVariants.{Room}
 use Rattle.outcome.specs.Outcome.{refused, number_of, block_of}
 use Rattle.words.specs.Bytes.{over}
+use Rattle.inputs.specs.Kinds.{is_header_kind, inhalation_of}
 use Rattle.inputs.specs.declared.Scenario.{Scenario}
 use Rattle.inputs.specs.declared.Contaminant.{Contaminant}
 use Rattle.inputs.specs.BuiltIn.{no_contaminant, built_in_of}
@@ -35,12 +36,12 @@ pub record Unpacked (word number block risk hazard : ℕ) : Type 0 where
   pub hazard_part : word / 16777216 % 256 ≡ hazard
 
 -- ---- structs of C: bytes 8 to 507 of a block. A struct of another length, or with an unused byte that is not zero, stands for a record that keeps
--- no rule, so that refusal 4 is sent back in its turn
-unfoldable pub header_form : List ℕ → Bool
-header_form l = eqb (length l) struct_size && header_unused l 0
+-- no rule, so that refusal 4 is sent back in its turn. The kind of a header, which is not in its struct, is given beside it; so does any but 1 and 6
+unfoldable pub header_form : ℕ → List ℕ → Bool
+header_form kind l = is_header_kind kind && (eqb (length l) struct_size && header_unused l 0)
 
-unfoldable pub header_from : List ℕ → Header
-header_from l = cond (header_form l) (header_at l 0) no_header
+unfoldable pub header_from : ℕ → List ℕ → Header
+header_from kind l = cond (header_form kind l) (header_at (inhalation_of kind) l 0) no_header
 
 unfoldable pub contaminant_form : List ℕ → Bool
 contaminant_form l = eqb (length l) struct_size && contaminant_unused l 0
@@ -53,8 +54,10 @@ abbrev pub with_room : ℕ → Result Guidelines Refused → Result Guidelines R
 with_room room (Ok g) = cond (ltb room 64) (refused Room 0) (Ok g)
 with_room room (Err r) = Err r
 
-unfoldable pub guideline_sent : List ℕ → List ℕ → ℕ → Result Guidelines Refused
-guideline_sent header contaminant room = with_room room (guideline_of (header_from header).scenario (header_from header).medium (contaminant_from contaminant))
+unfoldable pub guideline_sent : ℕ → List ℕ → List ℕ → ℕ → Result Guidelines Refused
+guideline_sent kind header contaminant room =
+    let h = header_from kind header in
+    with_room room (guideline_of h.scenario h.medium (contaminant_from contaminant))
 
 unfoldable pub guideline_word : Result Guidelines Refused → ℕ
 guideline_word a = word_of (number_of a) (block_of a) 0 0

@@ -2,16 +2,17 @@
 -- test, and all of them in the order in which they are tried. The first that holds is sent back, with the block that was tested.
 use Rattle.inputs.specs.declared.earlier.Earlier.{Earlier}
 use Rattle.inputs.specs.Earlier.{none_before, before_next}
-use Rattle.std.specs.Prelude.{◌≡◌, Bool, true, false, cond, not, ◌&&◌, List, [], ◌∷◌, ◌++◌, map, ℕ, zero, suc, ◌+◌, ◌/◌, length, eqb, leb, ltb, Result}
+use Rattle.std.specs.Prelude.{◌≡◌, Bool, true, false, cond, not, ◌&&◌, List, [], ◌∷◌, ◌++◌, map, ℕ, zero, suc, ◌+◌, ◌/◌, length, leb, ltb, Result}
 use Rattle.outcome.specs.declared.Refusal.{Refusal}
 use Rattle.outcome.specs.declared.Refusal.TheVariants.{Length, Check, Kind, Field, Count, Factor, Order, Room}
 use Rattle.outcome.specs.declared.Refused.{Refused}
 use Rattle.outcome.specs.Outcome.{refused, Test}
 use Rattle.words.specs.Words.{word_at}
+use Rattle.inputs.specs.Kinds.{is_header_kind}
 use Rattle.inputs.specs.declared.Scenario.{Scenario}
 use Rattle.inputs.specs.Rules.{scenario_fits, lacks_factor, contaminant_fits}
 use Rattle.block_rules.specs.Rules.{count_ok, block_size}
-use Rattle.block_rules.specs.Reading.{sound_at, header_unused, contaminant_unused}
+use Rattle.block_rules.specs.Reading.{is_contaminant_kind, sound_at, header_unused, contaminant_unused}
 use Rattle.guideline_rules.specs.Pathway.{record_tests}
 use Rattle.sum_rules.specs.Answer.{Sums}
 use Rattle.site_rules.specs.Blocks.{length_ok, block_at, header_of, record_at}
@@ -34,9 +35,9 @@ length_condition site = condition Length 0 (not (length_ok (length site)))
 abbrev pub check_condition : List ℕ → ℕ → Condition
 check_condition site k = condition Check k (not (sound_at (block_at site k) k))
 
--- 3 Kind: not 1 at place 0, not 2 elsewhere
-abbrev pub kind_condition : ℕ → List ℕ → ℕ → Condition
-kind_condition kind site k = condition Kind k (not (eqb (word_at (block_at site k) 0) kind))
+-- 3 Kind: not 1 or 6 at place 0, not 2 elsewhere
+abbrev pub kind_condition : (ℕ → Bool) → List ℕ → ℕ → Condition
+kind_condition is_kind site k = condition Kind k (not (is_kind (word_at (block_at site k) 0)))
 
 -- 4 Field, in the header: a decimal, the medium or an unused byte breaks its rule
 abbrev pub header_field_condition : List ℕ → Condition
@@ -72,12 +73,12 @@ room_condition site out = condition Room 0 (ltb out (length site))
 -- ---- their order: 1; the header 2 to 6; each later block 2, 3, 4, 7, the tests of a record; last 10
 -- the header: 2, 3, 4, 5, 6
 unfoldable pub header_conditions : List ℕ → List Condition
-header_conditions site = check_condition site 0 ∷ kind_condition 1 site 0 ∷ header_field_condition site ∷ count_condition site ∷ factor_condition site ∷ []
+header_conditions site = check_condition site 0 ∷ kind_condition is_header_kind site 0 ∷ header_field_condition site ∷ count_condition site ∷ factor_condition site ∷ []
 
 -- the block at place k, with what stands before its record: 2, 3, 4, 7, the tests of a record
 unfoldable pub block_conditions : Scenario → ℕ → List ℕ → ℕ → Earlier → List Condition
 block_conditions s medium site k before =
-    check_condition site k ∷ kind_condition 2 site k ∷ block_field_condition site k ∷ order_condition site k before.id ∷ record_conditions s medium site k before
+    check_condition site k ∷ kind_condition is_contaminant_kind site k ∷ block_field_condition site k ∷ order_condition site k before.id ∷ record_conditions s medium site k before
 
 -- n blocks, the first at place k: each with what stands before its record
 unfoldable pub later_conditions : Scenario → ℕ → List ℕ → ℕ → ℕ → Earlier → List Condition

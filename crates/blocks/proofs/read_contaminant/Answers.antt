@@ -4,7 +4,7 @@ use mathlib.Core.Bool.{◌&&◌}
 use borrow.Author.Tests.{eq-eqb, ne_eqb, le-leb, lt-leb}
 use Rattle.words.specs.Words.{part_of}
 use Rattle.inputs.specs.Rules.{contaminant_fits}
-use Rattle.block_rules.specs.Reading.{contaminant_at, contaminant_unused}
+use Rattle.block_rules.specs.Reading.{is_contaminant_kind, contaminant_at, contaminant_unused}
 use Rattle.blocks.proofs.Parts.{block_fits}
 use Rattle.blocks.proofs.Answers.{Passed, sound_here, kind_here, passed_here, contaminant_here, contaminant_fields_here}
 use Rattle.blocks.proofs.Answers.{contaminant_short, contaminant_check, contaminant_kind, contaminant_field, contaminant_order, contaminant_found}
@@ -24,9 +24,9 @@ room c = block_fits c.args.site.now c.args.at (long c)
 abbrev block : After-contaminant_unused → List ℕ
 block c = part_of c.args.site.now c.args.at 512
 
-passed : (c : After-contaminant_unused) → Passed (block c) c.args.place (λ (n : ℕ). eqb n 2)
+passed : (c : After-contaminant_unused) → Passed (block c) c.args.place is_contaminant_kind
 passed c =
-    passed_here c.args.site.now c.args.at (λ (n : ℕ). eqb n 2) c.has_block.ensures c.if-not-has_block.false c.sound.ensures c.if-not-sound.false c.word.ensures (eq-eqb _ 2 (omega arith))
+    passed_here c.args.site.now c.args.at is_contaminant_kind c.has_block.ensures c.if-not-has_block.false c.sound.ensures c.if-not-sound.false c.word.ensures (eq-eqb _ 2 (omega arith))
 
 is : (c : After-contaminant_unused) → c.get_contaminant-r.result ≡ contaminant_at (block c) 8
 is c = contaminant_here c.args.site.now c.args.at c.get_contaminant-r.result c.get_contaminant-r.ensures
@@ -58,7 +58,7 @@ returns-then-word-ne2 c =
     let here = (goal.at.returns-then-word-ne2 c).Else-not-has_block in
     contaminant_kind (bytes here) c.args.place c.args.previous (long here)
     (sound_here c.args.site.now c.args.at c.args.place _ c.sound.ensures ∙ c.if-not-sound.false)
-    (kind_here c.args.site.now c.args.at (λ (n : ℕ). eqb n 2) _ false c.word.ensures (ne_eqb _ _ c.if-word-ne2.true))
+    (kind_here c.args.site.now c.args.at is_contaminant_kind _ false c.word.ensures (ne_eqb _ _ c.if-word-ne2.true))
 
 pub returns-then-not-fit : goal.returns-then-not-fit
 returns-then-not-fit c =
