@@ -10,26 +10,29 @@ ghost use Rattle.gv_rules.specs.Exports.{word_of, packed, header_from, contamina
 use block_rules::{Header, STRUCT_SIZE};
 use formulas::Sides;
 use guideline_rules::Guidelines;
-use inputs::{Contaminant, Scenario};
+use inputs::{Contaminant, Inhalation, Scenario};
 use outcome::Refused;
 use sum_rules::Sums;
 
-// The header in a struct gv_header. A struct of another form stands for one that keeps no rule.
-pub fn header_from(header: &[u8]) -> Header
-    ensures { result ≡ header_from header.now }
+// The header of a kind in a struct gv_header. Another kind, or a struct of another form, stands for one that keeps no rule.
+pub fn header_from(kind: u32, header: &[u8]) -> Header
+    ensures { result ≡ header_from kind header.now }
 {
     let none = Header {
         medium: 0,
         count: 0,
         scenario: Scenario::BLANK,
     };
+    if !inputs::is_header_kind(kind) {
+        return none;
+    }
     if header.len() != STRUCT_SIZE {
         return none;
     }
     if !blocks::header_unused(header, 0) {
         return none;
     }
-    blocks::get_header(header, 0)
+    blocks::get_header(header, 0, Inhalation::of(kind))
 }
 
 // The contaminant in a struct gv_contaminant. A struct of another form stands for one that keeps no rule.

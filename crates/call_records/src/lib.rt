@@ -7,16 +7,18 @@ ghost use Rattle.sum_rules.specs.ListCall.{sums_of};
 
 use block_rules::Header;
 use input_bytes::read_full;
-use inputs::{Contaminant, Scenario};
+use inputs::{Contaminant, Inhalation, Scenario};
 use outcome::Refused;
 use std::io::{self, Read};
 use sum_rules::Sums;
 
-// The first 288 bytes of the next header block, unchecked. What the input does not give of them is of zeros.
+// The first 288 bytes of the next header block, unchecked: inhalation is by concentration where its kind is 6, otherwise by
+// intake. What the input does not give of them is of zeros.
 pub fn read_header<R: Read>(input: &mut R) -> io::Result<Header> {
     let mut block = [0u8; 288];
     read_full(input, &mut block)?;
-    Ok(blocks::get_header(&block, 8))
+    let kind = words::word(&block, 0);
+    Ok(blocks::get_header(&block, 8, Inhalation::of(kind)))
 }
 
 // The first 128 bytes of the next contaminant block, likewise.

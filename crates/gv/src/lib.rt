@@ -40,21 +40,22 @@ fn put_answer(own: Result<Guidelines, Refused>, out: &mut [u8]) -> Result<Guidel
     Ok(g)
 }
 
-// The single guideline of a struct gv_header, whose count is not looked at, and a struct gv_contaminant: see include/gv.h.
-pub fn gv_guideline(header: &[u8], contaminant: &[u8], out: &mut [u8]) -> u64
-    ensures { (result ≡ guideline_word (guideline_sent header.now contaminant.now (length out.old))) × (out.new ≡ guideline_put (guideline_sent header.now contaminant.now (length out.old)) out.old) }
+// The single guideline of a struct gv_header, whose count is not looked at, for headers of a kind, and a struct gv_contaminant: see
+// include/gv.h.
+pub fn gv_guideline(kind: u32, header: &[u8], contaminant: &[u8], out: &mut [u8]) -> u64
+    ensures { (result ≡ guideline_word (guideline_sent kind header.now contaminant.now (length out.old))) × (out.new ≡ guideline_put (guideline_sent kind header.now contaminant.now (length out.old)) out.old) }
 {
-    let h = c_structs::header_from(header);
+    let h = c_structs::header_from(kind, header);
     let r = c_structs::contaminant_from(contaminant);
     let a = put_answer(one_contaminant::single(h, r), out);
     c_structs::word_of(outcome::number(a), outcome::block(a), 0, 0)
 }
 
-// Writes a header block from a struct gv_header.
-pub fn gv_write_header(out: &mut [u8], header: &[u8]) -> u32
-    ensures { (result ≡ number_of (header_answer (length out.old) (header_from header.now))) × (out.new ≡ header_left out.old (header_from header.now)) }
+// Writes the header block of a kind, 1 or 6, from a struct gv_header.
+pub fn gv_write_header(out: &mut [u8], kind: u32, header: &[u8]) -> u32
+    ensures { (result ≡ number_of (header_answer (length out.old) (header_from kind header.now))) × (out.new ≡ header_left out.old (header_from kind header.now)) }
 {
-    outcome::number(writers::write_header(out, c_structs::header_from(header)))
+    outcome::number(writers::write_header(out, c_structs::header_from(kind, header)))
 }
 
 // Writes a contaminant block from a struct gv_contaminant.

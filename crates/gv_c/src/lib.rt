@@ -25,20 +25,21 @@ pub extern "C" fn gv_list(site: &[u8], out: &mut [u8], text: &mut [u8]) -> u64
     gv::gv_list(site, out, text)
 }
 
-// The single guideline of a struct gv_header, whose count is not looked at, and a struct gv_contaminant: see include/gv.h.
+// The single guideline of a struct gv_header, whose count is not looked at, for headers of a kind, and a struct gv_contaminant: see
+// include/gv.h.
 #[unsafe(no_mangle)]
-pub extern "C" fn gv_guideline(header: &[u8], contaminant: &[u8], out: &mut [u8]) -> u64
-    ensures { (result ≡ guideline_word (guideline_sent header.now contaminant.now (length out.old))) × (out.new ≡ guideline_put (guideline_sent header.now contaminant.now (length out.old)) out.old) }
+pub extern "C" fn gv_guideline(kind: u32, header: &[u8], contaminant: &[u8], out: &mut [u8]) -> u64
+    ensures { (result ≡ guideline_word (guideline_sent kind header.now contaminant.now (length out.old))) × (out.new ≡ guideline_put (guideline_sent kind header.now contaminant.now (length out.old)) out.old) }
 {
-    gv::gv_guideline(header, contaminant, out)
+    gv::gv_guideline(kind, header, contaminant, out)
 }
 
-// Writes a header block from a struct gv_header.
+// Writes the header block of a kind, 1 or 6, from a struct gv_header.
 #[unsafe(no_mangle)]
-pub extern "C" fn gv_write_header(out: &mut [u8], header: &[u8]) -> u32
-    ensures { (result ≡ number_of (header_answer (length out.old) (header_from header.now))) × (out.new ≡ header_left out.old (header_from header.now)) }
+pub extern "C" fn gv_write_header(out: &mut [u8], kind: u32, header: &[u8]) -> u32
+    ensures { (result ≡ number_of (header_answer (length out.old) (header_from kind header.now))) × (out.new ≡ header_left out.old (header_from kind header.now)) }
 {
-    gv::gv_write_header(out, header)
+    gv::gv_write_header(out, kind, header)
 }
 
 // Writes a contaminant block from a struct gv_contaminant.

@@ -54,16 +54,16 @@ room_block : (room : ℕ) (a : Result Guidelines Refused) → block_of a ≤ 1 �
 room_block room (Ok g) h = either_block (ltb room 64) (refused Room 0) (Ok g) (omega arith) h
 room_block room (Err r) h = h
 
-sent_block : (header contaminant : List ℕ) (room : ℕ) → block_of (guideline_sent header contaminant room) ≤ 1
+sent_block : (kind : ℕ) (header contaminant : List ℕ) (room : ℕ) → block_of (guideline_sent kind header contaminant room) ≤ 1
 unfolding guideline_sent
-sent_block header contaminant room =
-    room_block room (guideline_of (header_from header).scenario (header_from header).medium (contaminant_from contaminant))
-    (guideline_block (header_from header).scenario (header_from header).medium (contaminant_from contaminant))
+sent_block kind header contaminant room =
+    room_block room (guideline_of (header_from kind header).scenario (header_from kind header).medium (contaminant_from contaminant))
+    (guideline_block (header_from kind header).scenario (header_from kind header).medium (contaminant_from contaminant))
 
 -- THE WORD of every single guideline
-pub guideline_word_lem : (header contaminant : List ℕ) (room : ℕ) → Unpacked (guideline_word (guideline_sent header contaminant room))
-    (number_of (guideline_sent header contaminant room)) (block_of (guideline_sent header contaminant room)) 0 0
+pub guideline_word_lem : (kind : ℕ) (header contaminant : List ℕ) (room : ℕ) → Unpacked (guideline_word (guideline_sent kind header contaminant room))
+    (number_of (guideline_sent kind header contaminant room)) (block_of (guideline_sent kind header contaminant room)) 0 0
 unfolding guideline_word
-guideline_word_lem header contaminant room =
-    let a = guideline_sent header contaminant room in
-    unpacked (number_of a) (block_of a) 0 0 (omega (arith, number_most a)) (omega (arith, sent_block header contaminant room)) (omega arith) (omega arith)
+guideline_word_lem kind header contaminant room =
+    let a = guideline_sent kind header contaminant room in
+    unpacked (number_of a) (block_of a) 0 0 (omega (arith, number_most a)) (omega (arith, sent_block kind header contaminant room)) (omega arith) (omega arith)
