@@ -5,7 +5,7 @@ mod earlier;
 mod groups;
 mod kind;
 
-ghost use Rattle.std.specs.Prelude.{◌≡◌};
+ghost use Rattle.std.specs.Prelude.{◌≡◌, true, [], ◌∷◌};
 ghost use Rattle.inputs.specs.BuiltIn.{built_in_of};
 ghost use Rattle.inputs.specs.Inputs.{scenario_decimals, contaminant_decimals};
 ghost use Rattle.inputs.specs.Rules.{one_to, scenario_fits, contaminant_fits, lacks_factor, lacks_house, scenario_refusal};
@@ -238,14 +238,21 @@ pub fn valid(d: Decimal) -> bool
     (m <= 999_999_999) & low & high & !zero
 }
 
-// The same of a decimal that most records leave at zero, which takes no further test.
-fn zero_or_valid(d: Decimal) -> bool
-    ensures { result ≡ valid_of d }
+// Whether it is (0, 0), which keeps the rule.
+fn is_zero(d: Decimal) -> bool
+    ensures { result ≡ true → valid_of d ≡ true }
 {
-    if (d.m == 0) & (d.e == 0) {
+    (d.m == 0) & (d.e == 0)
+}
+
+// The same of the decimals that most records leave at zero, which take one test then.
+fn zero_or_valid(a: Decimal, b: Decimal, c: Decimal, d: Decimal) -> bool
+    ensures { result ≡ all_valid (a ∷ b ∷ c ∷ d ∷ []) }
+{
+    if is_zero(a) & is_zero(b) & is_zero(c) & is_zero(d) {
         return true;
     }
-    valid(d)
+    valid(a) & valid(b) & valid(c) & valid(d)
 }
 
 // Whether each decimal keeps its rule. No branch depends on them.
@@ -279,11 +286,8 @@ pub fn valid_contaminant(r: Contaminant) -> bool
     let toxicity = all_valid(r.toxicity.into());
     let transfer = all_valid(r.transfer.into());
     let c = valid(r.c);
-    let saturation = zero_or_valid(r.saturation);
-    let u = zero_or_valid(r.in_air.u);
-    let q = zero_or_valid(r.in_air.q);
-    let abs = zero_or_valid(r.abs);
-    toxicity & transfer & c & saturation & u & q & abs
+    let later = zero_or_valid(r.saturation, r.in_air.u, r.in_air.q, r.abs);
+    toxicity & transfer & c & later
 }
 
 // Whether a number is from 1 to so many: a medium, or a class.

@@ -6,11 +6,12 @@ use Prim.Native.Nat.{ℕ, ◌+◌, ◌-◌, ◌*◌, ◌^◌, ◌≤◌, ◌<◌
 use native.Mathlib.Nat.{mul-le-mul_right, mul-lt-mul_of_pos_right, lt_of_lt_of_le, mul-pos, le_of_lt, le_antisymm, eq_of_mul-eq-mul_right}
 use native.Mathlib.Omega.{arith}
 use lib.Dec.{eqb, ltb, leb, lit<}
-use borrow.Author.Tests.{eqb-true, eqb-false, eq-eqb, ne_eqb, le-leb, lt-leb, ltb-true, ltb-false, leb-true, leb-false}
+use borrow.Author.Tests.{eqb-true, eqb-false, eq-eqb, ne_eqb, le-leb, lt-leb, lt-ltb, ltb-true, ltb-false, leb-true, leb-false}
 use Rattle.std.proofs.Common.{Some}
 use Rattle.std.proofs.lemmas.Bool.Decides.{nat_tests}
 use Rattle.std.specs.Ordering.{nat_cmp, partial_ordering_then, partial_le}
 use Rattle.rounding.specs.declared.Direction.{Direction}
+use Rattle.rounding.specs.declared.Direction.TheVariants.{Down, Up}
 use Rattle.rounding.specs.declared.Number.{Number}
 use Rattle.rounding.specs.Number.{worth, Nine, Working, InRange, Result, SumResult, rank_of, at_most_of}
 use Rattle.rounding.specs.Round.{divide_of, cut_of, round_of}
@@ -41,6 +42,18 @@ module _ (dir : Direction) (p q : Number) (a : InRange p) (b : InRange q) where
   pub quotient_result : Result (p.x + 2991 - q.x) (quotient_of dir p q)
   unfolding quotient_of
   quotient_result = let z = quotient_sizes p q a b in round_result dir (dividend_of p q) (divisor_of q) (p.x + 2991 - q.x) z.some z.most
+
+-- ---- the product with a power of ten
+whole_product : (dir : Direction) (n : ℕ) → divide_of dir (n * 100000000) 100000000 ≡ n
+whole_product Down n = omega arith
+whole_product Up n = omega arith
+
+pub power_product : (dir : Direction) (p q : Number) → p.m < 1000000000 → q.m ≡ 100000000 → record { m = p.m; x = p.x + q.x - 2992 } ≡ product_of dir p q
+unfolding product_of round_of cut_of
+power_product dir p q h e = sym (rw (e, whole_product dir p.m, lt-ltb p.m 1000000000 h) refl)
+
+pub power_result : (p q : Number) → InRange p → Result (p.x + q.x - 2992) (record { m = p.m; x = p.x + q.x - 2992 })
+power_result p q a = record { most = a.most; low = omega arith; high = omega arith }
 
 aligned_result : (dir : Direction) (p q : Number) → InRange p → InRange q → Result p.x (aligned_of dir p q)
 unfolding aligned_of

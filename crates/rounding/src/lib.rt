@@ -4,7 +4,8 @@
 #![tactic(auto)]
 
 ghost use Rattle.std.specs.Prelude.{◌≡◌, ◌+◌, ◌-◌, ◌*◌, ◌^◌, ◌≤◌, ◌<◌, leb, cond};
-ghost use Rattle.rounding.specs.Sizes.{ten_digits, bias};
+ghost use Rattle.rounding.specs.Sizes.{nine_digits, ten_digits, bias};
+ghost use Rattle.rounding.specs.declared.Direction.{Direction};
 ghost use Rattle.rounding.specs.Direction.{opposite as opposite_of};
 ghost use Rattle.rounding.specs.Round.{extra_of, divide_of, cut_of};
 ghost use Rattle.rounding.specs.Number.{Working, InRange, Result, SumResult, rank_of, at_most_of};
@@ -144,6 +145,17 @@ impl Number {
         let n = self.m * other.m;
         let x = self.x + other.x - NINE_PLACES;
         cut(divide(n, NINE_DIGITS, dir), x, dir)
+    }
+
+    // The product with a power of ten in nine digits: exact, whatever the direction, so nothing is divided.
+    pub fn times_power(self, power: Number) -> Number
+        requires { InRange self × (InRange power × (power.m ≡ nine_digits)) }
+        ensures { ((dir : Direction) → result ≡ product_of dir self power) × Result (self.x + power.x - (bias - 8)) result }
+    {
+        Number {
+            m: self.m,
+            x: self.x + power.x - NINE_PLACES,
+        }
     }
 
     // The quotient, rounded; zero where the divisor is zero.

@@ -22,7 +22,7 @@ use Rattle.factors.specs.Stands.{Stands}
 use Rattle.factors.specs.Prepared.{Middle}
 use Rattle.factors.proofs.StandsLaws.{no_number, stands_mul, stands_mul3, stands_middle, stands_operand}
 use Rattle.terms.specs.Side.{number_values, Ready}
-use Rattle.terms.proofs.NumberValues.{behind, numbers, named, named_below, input, middle, stands_turned}
+use Rattle.terms.proofs.NumberValues.{behind, numbers, named, named_below, input, middle, range, stands_turned}
 
 -- the place of a name in the values
 abbrev pub place : ℕ → ℕ
@@ -40,6 +40,11 @@ module _ {dir : Direction} {medium : ℕ} {f : Factors} {p : Prepared} {t : Cont
       Stands three_width a (named dir f t (place m ∷ place n ∷ place k ∷ []))
   three_inputs m n k e = stands_mul3 dir (input ready m) (input ready n) (input ready k) (lit≤ tt) e
 
+  -- the third a power of ten, which leaves its factors as they are
+  pub two_powered : (m n k : ℕ) {a b : Number} → a ≡ product_of dir (number m) (number n) → ((d : Direction) → b ≡ product_of d a (number k)) →
+      Stands three_width b (named dir f t (place m ∷ place n ∷ place k ∷ []))
+  two_powered m n k e g = stands_mul dir (two_inputs m n e) (input ready k) (lit≤ tt) (g dir)
+
   pub two_more : (m n : ℕ) {w : ℕ} {a b : Number} {d : Decimal} → Stands w a d → w + input_width + input_width ≤ 970 → b ≡ product_of dir (product_of dir a (number m)) (number n) →
       Stands (w + input_width + input_width + 2) b
       (mul_of (mul_of d (look (number_values dir f t) (place m)) dir) (look (number_values dir f t) (place n)) dir)
@@ -55,6 +60,11 @@ module _ {dir : Direction} {medium : ℕ} {f : Factors} {p : Prepared} {t : Cont
 
   pub two_more_fit : (m n : ℕ) {w : ℕ} {a : Number} {d : Decimal} → Stands w a d → w ≤ middle_width → Middle a × (Middle (number m) × Middle (number n))
   two_more_fit m n s h = let r = middle ready in (stands_middle h s, (r m, r n))
+
+-- what a power of ten may be multiplied with
+pub power_fits : {dir : Direction} {medium : ℕ} {f : Factors} {p : Prepared} {t : ContaminantNumbers} (ready : Ready dir medium f p t) (k : ℕ) {w : ℕ} {a : Number} {d : Decimal} →
+    Stands w a d → w ≤ 990 → (number ready k).m ≡ 100000000 → InRange a × (InRange (number ready k) × ((number ready k).m ≡ 100000000))
+power_fits ready k s h e = ((stands_operand h s).range, (range ready k, e))
 
 -- and divided
 pub quotient_fits : {v w : ℕ} {a b : Number} {d e : Decimal} → Stands v a d → v ≤ 990 → Stands w b e → w ≤ 990 → InRange a × InRange b

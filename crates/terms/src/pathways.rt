@@ -79,7 +79,7 @@ impl Given {
     {
         let Given { f, p, t, dir, .. } = self;
         let e = f.exposure;
-        let swallowed = product3(t.toxicity.sfo, f.contact.ir, MILLIONTH, dir);
+        let swallowed = t.toxicity.sfo.mul(f.contact.ir, dir).times_power(MILLIONTH);
         PathwayTerms {
             first: product3(swallowed, e.ef, e.ed, dir).div(p.lifetime, dir),
             second: inhaled,
@@ -109,10 +109,11 @@ impl Given {
         let e = f.exposure;
         let k = f.contact;
         let x = t.toxicity;
+        let swallowed = x.sfo.mul(k.ir, dir).times_power(MILLIONTH);
         let inhaled = product3(x.sfi.mul(k.ira, dir), e.ef, e.ed, dir);
         let outdoors = product3(x.sfx, k.et, k.rf, dir).mul(YEARS_PER_HOUR, dir);
         PathwayTerms {
-            first: product3(product3(x.sfo, k.ir, MILLIONTH, dir), e.ef, e.ed, dir),
+            first: product3(swallowed, e.ef, e.ed, dir),
             second: inhaled.div(k.pef, dir),
             third: product3(outdoors, e.ef, e.ed, dir),
         }
@@ -226,6 +227,7 @@ fn intake(
 }
 
 // Inhalation of a chemical by intake, of risk and of hazard, with the factor from soil or water to the air: B or 0.5.
+#[inline(always)]
 fn by_intake(
     f: &Factors,
     p: &Prepared,
@@ -275,6 +277,7 @@ fn by_concentration(
 }
 
 // Inhalation of a chemical, by intake or by concentration.
+#[inline(always)]
 fn inhaled(
     f: &Factors,
     p: &Prepared,

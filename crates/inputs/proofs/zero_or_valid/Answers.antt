@@ -1,18 +1,14 @@
--- `inputs::zero_or_valid`: (0, 0) keeps its rule.
-use Rattle.std.proofs.Common.{◌≡◌, arith, refl}
-use lib.Dec.{eqb}
-use mir.Syntax.{w32}
-use mir.Val.{of_z}
-use borrow.Author.Tests.{eqb-true}
-use Rattle.decimal.proofs.Bias.{zero_passed}
-use Rattle.inputs.specs.Valid.{valid_of}
+-- `inputs::zero_or_valid`: four times (0, 0), or each as it is.
+use mathlib.Core.Bool.{and-true, and_assoc}
 use Rattle.inputs.proofs.Tests.{and_split}
 use Rattle.inputs.proofs.zero_or_valid.Goals as goal
 
-pub returns-then-d : goal.returns-then-d
-unfolding valid_of
-returns-then-d c =
-    let d = c.args.d in
-    let both = and_split (eqb d.m 0) _ c.if-d.true in
-    let e : of_z w32 d.e ≡ 0 = eqb-true (of_z w32 d.e) 0 both.1 in
-    rw (eqb-true d.m 0 both.0, zero_passed d.e (omega arith) e) refl
+pub returns-then-is_zero : goal.returns-then-is_zero
+returns-then-is_zero c =
+    let three = and_split _ _ c.if-is_zero.true in
+    let two = and_split _ _ three.0 in
+    let one = and_split _ _ two.0 in
+    rw (c.is_zero.ensures one.0, c.is_zero-2.ensures one.1, c.is_zero-3.ensures two.1, c.is_zero-4.ensures three.1)
+
+pub returns : goal.returns
+returns c = simp (c.valid.ensures, c.valid-2.ensures, c.valid-3.ensures, c.valid-4.ensures, and-true, and_assoc)
