@@ -1,12 +1,12 @@
--- The examples of tritium and of soil on skin (docs/SPECIFICATION.md, "Checked figures"), and what H and G come to there: in each direction, and with
--- a zero factor in one part or in both.
-use Rattle.std.specs.Prelude.{List, [], ◌∷◌, get_or, pos, negsuc}
+-- The examples of tritium, of soil on skin and of inhalation by concentration (docs/SPECIFICATION.md, "Checked figures"), and what H and G come to
+-- there: in each direction, and with a zero factor in one part or in both.
+use Rattle.std.specs.Prelude.{List, [], ◌∷◌, ℕ, get_or, pos, negsuc}
 use Rattle.rounding.specs.declared.Direction.{Direction}
 use Rattle.rounding.specs.declared.Direction.TheVariants.{Down, Up}
 use Rattle.decimal.specs.declared.Decimal.{Decimal}
 use Rattle.decimal.specs.Decimal.{zero_of}
 use Rattle.decimal.specs.Figures.{Figure, dec, ◌is◌}
-use Rattle.inputs.specs.declared.kind.Inhalation.TheVariants.{Intake}
+use Rattle.inputs.specs.declared.kind.Inhalation.TheVariants.{Intake, Concentration}
 use Rattle.inputs.specs.declared.Scenario.{Scenario}
 use Rattle.inputs.specs.declared.Contaminant.{Contaminant}
 use Rattle.inputs.specs.Inputs.{no_toxicity_in_air}
@@ -115,3 +115,46 @@ third_term side = term_of (values_for Up office_on_skin skin_sample) Up (get_or 
 
 unfoldable pub skin_term_figures : List Figure
 skin_term_figures = (third_term Risk is dec 688845402 (negsuc 14)) ∷ (third_term Hazard is dec 964383562 (negsuc 12)) ∷ []
+
+-- the office worker with inhalation by concentration and so many hours of air a day
+abbrev pub office_by_concentration : Decimal → Scenario
+office_by_concentration hours = record {
+  exposure = office.exposure;
+  contact = office.contact;
+  targets = office.targets;
+  house = office.house;
+  air_hours = hours;
+  ages = office.ages;
+  inhalation = Concentration;
+}
+
+-- a chemical with U 7.8 × 10^-6, Q 0.03, VF 19000 and C 2, all else zero
+abbrev pub volatile : Contaminant
+volatile = record {
+  class = 1;
+  id = 1;
+  toxicity = record { sfo = zero_of; sfi = zero_of; sfx = zero_of; rfdo = zero_of; rfdi = zero_of };
+  transfer = record { vf = dec 19000 (pos 0); pc = zero_of };
+  c = dec 2 (pos 0);
+  saturation = zero_of;
+  in_air = record { u = dec 78 (negsuc 6); q = dec 3 (negsuc 1) };
+  abs = zero_of;
+}
+
+-- its term of inhalation in a medium, and without hours in the air
+abbrev inhaled_term : Direction → Decimal → ℕ → Side → Decimal
+inhaled_term dir hours medium side =
+    let s = office_by_concentration hours in
+    term_of (values_for dir s volatile) dir (get_or (formulas_for s medium volatile side) 1 none)
+
+unfoldable pub air_figures : List Figure
+air_figures =
+    (inhaled_term Up (dec 8 (pos 0)) 1 Risk is dec 334742450 (negsuc 15)) ∷
+    (inhaled_term Down (dec 8 (pos 0)) 1 Risk is dec 334742446 (negsuc 15)) ∷
+    (inhaled_term Up (dec 8 (pos 0)) 1 Hazard is dec 400546523 (negsuc 11)) ∷
+    (inhaled_term Down (dec 8 (pos 0)) 1 Hazard is dec 400546518 (negsuc 11)) ∷
+    (inhaled_term Up (dec 8 (pos 0)) 2 Risk is dec 318003914 (negsuc 11)) ∷
+    (inhaled_term Down (dec 8 (pos 0)) 2 Risk is dec 318003913 (negsuc 11)) ∷
+    (inhaled_term Up (dec 8 (pos 0)) 2 Hazard is dec 380517504 (negsuc 7)) ∷
+    (inhaled_term Down (dec 8 (pos 0)) 2 Hazard is dec 380517503 (negsuc 7)) ∷
+    (inhaled_term Up zero_of 1 Risk is zero_of) ∷ (inhaled_term Up zero_of 2 Hazard is zero_of) ∷ []

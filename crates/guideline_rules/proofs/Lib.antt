@@ -4,6 +4,7 @@ pub mod Saturation
 pub mod Promises
 pub mod SaturatedSoil
 pub mod SameRows
+pub mod Inhalation
 pub mod SoilOnSkin
 pub mod InRange
 pub mod MarkedFigures

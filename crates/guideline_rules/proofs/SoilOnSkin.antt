@@ -2,10 +2,10 @@
 -- the guidelines of its first two pathways, in the total too. Assumes nothing.
 use mathlib.Core.Path.{◌≡◌, refl, sym, ap, ◌∙◌}
 use mathlib.Core.Bool.{Bool, true, false, ◌&&◌}
-use mathlib.Core.List.{List, [], ◌∷◌, ◌++◌}
+use mathlib.Core.List.{List, [], ◌∷◌}
 use Prim.Native.Nat.{ℕ}
 use lib.Dec.{eqb, lit<}
-use lib.ListN.{get_or, drop}
+use lib.ListN.{get_or}
 use borrow.Author.Tests.{eqb-true}
 use Rattle.rounding.specs.declared.Direction.{Direction}
 use Rattle.rounding.specs.declared.Direction.TheVariants.{Down, Up}
@@ -16,21 +16,19 @@ use Rattle.decimal.specs.Lists.{summed}
 use Rattle.inputs.specs.declared.groups.Ages.{Ages}
 use Rattle.inputs.specs.declared.kind.Inhalation.{Inhalation}
 use Rattle.inputs.specs.declared.kind.Inhalation.TheVariants.{Intake, Concentration}
-use Rattle.inputs.specs.Inputs.{scenario_decimals, formula_decimals}
 use Rattle.inputs.specs.declared.Scenario.{Scenario}
 use Rattle.inputs.specs.declared.Contaminant.{Contaminant}
-use Rattle.inputs.specs.declared.earlier.Earlier.{Earlier}
 use Rattle.inputs.proofs.Tests.{and_split}
 use Rattle.formulas.specs.Side.{Side, Risk, Hazard}
 use Rattle.formulas.specs.Target.{working_target}
-use Rattle.formulas.specs.Formula.{Formula, none, ABS, table, pathways_of, no_pathways, derived}
-use Rattle.formulas.specs.Term.{constants, look, present_of, term_of, total_of, values_of, values_for, formulas_for}
+use Rattle.formulas.specs.Formula.{Formula, none, ABS, table, pathways_of, derived}
+use Rattle.formulas.specs.Term.{look, present_of, term_of, total_of, values_of, values_for, formulas_for}
 use Rattle.formulas.proofs.Presence.{absent_term, zero_factor}
 use Rattle.guideline_rules.specs.declared.SideGuidelines.{SideGuidelines}
-use Rattle.guideline_rules.specs.Pathway.{has_pathway, record_refusal}
 use Rattle.guideline_rules.specs.Guideline.{side_of, calculated_of}
-use Rattle.guideline_rules.proofs.SameRows.{Same, same, Each, in_rows}
-use Rattle.guideline_rules.proofs.SameRows.Each.{end, next}
+use Rattle.guideline_rules.specs.Alike.{Alike}
+use Rattle.guideline_rules.proofs.SameRows.{same, values_by, Each, in_table, alike}
+use Rattle.guideline_rules.proofs.SameRows.Each.{end, next, other}
 use Rattle.guideline_rules.specs.Skin.{ChemicalInSoil, with_ages, with_abs, first_two}
 
 -- ---- what is no chemical in soil
@@ -42,50 +40,30 @@ not_chemical_in_soil medium r n = cases (eqb 1 medium && eqb 1 r.class) refl
     cases false e = refl
 
 module _ (s : Scenario) (medium : ℕ) (r : Contaminant) (a : Ages Decimal) (d : Decimal) (n : ChemicalInSoil medium r → ⊥) where
-  module _ (dir : Direction) where
-    -- by intake or by concentration
-    abbrev values_by : Inhalation → Scenario → Contaminant → List Decimal
-    values_by i s r = values_of dir (constants ++ (scenario_decimals s ++ formula_decimals i r))
+  -- the other rows, by intake or by concentration
+  other_rows : (i : Inhalation) (dir : Direction) (side : Side) → Each dir (values_by i dir (with_ages a s) (with_abs d r)) (values_by i dir s r) medium r.class side (table i)
+  unfolding table values_of derived total_of term_of present_of side_of
+  other_rows Intake dir Risk =
+      other (not_chemical_in_soil medium r n)
+      (next (same refl refl (λ t. refl)) (next (same refl refl (λ t. refl)) (next (same refl refl (λ t. refl)) (next (same refl refl (λ t. refl)) end))))
+  other_rows Intake dir Hazard =
+      other (not_chemical_in_soil medium r n)
+      (next (same refl refl (λ t. refl)) (next (same refl refl (λ t. refl)) (next (same refl refl (λ t. refl)) (next (same refl refl (λ t. refl)) end))))
+  other_rows Concentration dir Risk =
+      other (not_chemical_in_soil medium r n)
+      (next (same refl refl (λ t. refl)) (next (same refl refl (λ t. refl)) (next (same refl refl (λ t. refl)) (next (same refl refl (λ t. refl)) end))))
+  other_rows Concentration dir Hazard =
+      other (not_chemical_in_soil medium r n)
+      (next (same refl refl (λ t. refl)) (next (same refl refl (λ t. refl)) (next (same refl refl (λ t. refl)) (next (same refl refl (λ t. refl)) end))))
 
-    abbrev vs : Inhalation → List Decimal
-    vs i = values_by i (with_ages a s) (with_abs d r)
-
-    abbrev ws : Inhalation → List Decimal
-    ws i = values_by i s r
-
-    other_rows : (i : Inhalation) (side : Side) → Each dir (vs i) (ws i) side (drop 1 (table i))
-    unfolding table values_of derived total_of term_of present_of side_of
-    other_rows Intake Risk = next (same refl refl (λ t. refl)) (next (same refl refl (λ t. refl)) (next (same refl refl (λ t. refl)) (next (same refl refl (λ t. refl)) end)))
-    other_rows Intake Hazard = next (same refl refl (λ t. refl)) (next (same refl refl (λ t. refl)) (next (same refl refl (λ t. refl)) (next (same refl refl (λ t. refl)) end)))
-    other_rows Concentration Risk = next (same refl refl (λ t. refl)) (next (same refl refl (λ t. refl)) (next (same refl refl (λ t. refl)) (next (same refl refl (λ t. refl)) end)))
-    other_rows Concentration Hazard = next (same refl refl (λ t. refl)) (next (same refl refl (λ t. refl)) (next (same refl refl (λ t. refl)) (next (same refl refl (λ t. refl)) end)))
-
-    no_row : (i : Inhalation) → Same dir (vs i) (ws i) no_pathways
-    unfolding total_of term_of present_of side_of
-    no_row i = same refl refl (λ t. refl)
-
-    same_values : (side : Side) → Same dir (vs s.inhalation) (ws s.inhalation) (pathways_of s.inhalation medium r.class side)
-    unfolding pathways_of table
-    same_values side =
-        let i = s.inhalation in
-        rw (not_chemical_in_soil medium r n) (in_rows dir (vs i) (ws i) side (drop 1 (table i)) (no_row i) (other_rows i side) medium r.class)
-
-  -- whether there is a pathway, the tests of a record and what is calculated do not look at the ages and at ABS, nor does a sum of terms
-  pub pathway_without_skin : (side : Side) → has_pathway (with_ages a s) medium (with_abs d r) side ≡ has_pathway s medium r side
-  unfolding has_pathway
-  pathway_without_skin side = (same_values Up side).present
-
-  pub refusal_without_skin : (before : Earlier) → record_refusal (with_ages a s) medium before (with_abs d r) ≡ record_refusal s medium before r
-  unfolding record_refusal
-  refusal_without_skin before = rw (pathway_without_skin Risk, pathway_without_skin Hazard) refl
-
-  pub calculated_without_skin : (side : Side) → calculated_of (with_ages a s) medium (with_abs d r) side ≡ calculated_of s medium r side
-  calculated_without_skin Risk = (same_values Up Risk).sides (working_target s Risk)
-  calculated_without_skin Hazard = (same_values Up Hazard).sides (working_target s Hazard)
-
-  pub total_without_skin : (dir : Direction) (side : Side) → total_of (values_for dir (with_ages a s) (with_abs d r)) dir (formulas_for (with_ages a s) medium (with_abs d r) side)
-      ≡ total_of (values_for dir s r) dir (formulas_for s medium r side)
-  total_without_skin dir side = (same_values dir side).total
+  -- whether there is a pathway, the tests of a record, what is calculated and the sums of terms do not look at the ages and at ABS
+  pub without_skin : Alike medium (with_ages a s) (with_abs d r) s r
+  without_skin =
+      alike medium (with_ages a s) s (with_abs d r) r (λ side. refl) targets refl (λ before. refl) (λ dir side. in_table dir _ _ medium r.class side s.inhalation (other_rows s.inhalation dir side))
+    where
+      targets : (side : Side) → working_target (with_ages a s) side ≡ working_target s side
+      targets Risk = refl
+      targets Hazard = refl
 
 -- ---- a chemical in soil without ABS
 module _ (s : Scenario) (medium : ℕ) (r : Contaminant) (k : ChemicalInSoil medium r) (z : r.abs ≡ zero_of) where

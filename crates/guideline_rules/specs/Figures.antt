@@ -1,6 +1,6 @@
 -- The marked figures (docs/SPECIFICATION.md, "Checked figures") as one table: those about decimals, those of the office worker in soil, those of
--- tritium in water, those of a saturation, and those of soil on skin.
-use Rattle.std.specs.Prelude.{List, [], ◌∷◌, ◌++◌, get_or, pos, negsuc}
+-- tritium in water, those of a saturation, those of soil on skin, and those of inhalation by concentration.
+use Rattle.std.specs.Prelude.{ℕ, List, [], ◌∷◌, ◌++◌, get_or, pos, negsuc}
 use Rattle.rounding.specs.declared.Direction.TheVariants.{Up}
 use Rattle.decimal.specs.declared.Decimal.{Decimal}
 use Rattle.decimal.specs.Decimal.{zero_of}
@@ -11,7 +11,7 @@ use Rattle.inputs.specs.BuiltIn.{office}
 use Rattle.formulas.specs.Side.{Risk}
 use Rattle.formulas.specs.Formula.{none}
 use Rattle.formulas.specs.Term.{term_of, formulas_for, values_for}
-use Rattle.formulas.specs.Figures.{resident, tritium, office_on_skin, sample_of, skin_sample}
+use Rattle.formulas.specs.Figures.{resident, tritium, office_on_skin, sample_of, skin_sample, office_by_concentration, volatile}
 use Rattle.guideline_rules.specs.Guideline.{guidelines_sent, guideline_of}
 
 -- a chemical with SFo 1, RfDo 0.02 and a concentration, all else zero
@@ -72,5 +72,15 @@ skin_figures =
     (g.hazard.first is dec 408799998 (negsuc 3)) ∷ (g.hazard.second is zero_of) ∷ (g.hazard.third is dec 103693181 (negsuc 3)) ∷
     (g.hazard.total is dec 827128518 (negsuc 4)) ∷ []
 
+-- inhalation by concentration, 8 hours of air a day: of risk and of hazard in a medium
+abbrev air_row : ℕ → Decimal → Decimal → List Figure
+air_row medium risk hazard =
+    let g = guidelines_sent (guideline_of (office_by_concentration (dec 8 (pos 0))) medium volatile) in
+    (g.risk.second is risk) ∷ (g.risk.total is risk) ∷ (g.hazard.second is hazard) ∷ (g.hazard.total is hazard) ∷ []
+
+unfoldable pub concentration_figures : List Figure
+concentration_figures =
+    air_row 1 (dec 298737133 (negsuc 6)) (dec 249658889 (negsuc 4)) ++ air_row 2 (dec 314461538 (negsuc 10)) (dec 262799999 (negsuc 8))
+
 abbrev pub marked_figures : List Figure
-marked_figures = figures ++ (office_figures ++ (tritium_figures ++ (saturation_figures ++ skin_figures)))
+marked_figures = figures ++ (office_figures ++ (tritium_figures ++ (saturation_figures ++ (skin_figures ++ concentration_figures))))

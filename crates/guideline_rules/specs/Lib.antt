@@ -4,5 +4,7 @@ pub mod Saturation
 pub mod Guideline
 pub mod Steps
 pub mod Promise
+pub mod Alike
+pub mod Inhalation
 pub mod Skin
 pub mod Figures

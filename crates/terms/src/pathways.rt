@@ -352,8 +352,8 @@ pub fn terms_of(
     match (class, medium) {
         (Class::Chemical, Medium::Soil) => {
             let b = given.air();
-            let breathed = inhaled(f, p, t, Medium::Soil, inhalation, b, dir);
             let skin = on_skin(f, p, t, dir);
+            let breathed = inhaled(f, p, t, Medium::Soil, inhalation, b, dir);
             Terms {
                 risk: given.soil_chemical_risk(breathed.risk, skin.risk),
                 hazard: given.soil_chemical_hazard(breathed.hazard, skin.hazard),

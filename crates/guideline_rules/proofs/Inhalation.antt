@@ -1,0 +1,62 @@
+-- What inhalation looks at: by intake nothing looks at A, U and Q; by concentration no chemical looks at IRA, SFi and RfDi; and what is no chemical has
+-- the same by either. By concentration a zero A leaves a chemical no inhalation. Assumes nothing.
+use mathlib.Core.Path.{◌≡◌, refl}
+use mathlib.Core.Bool.{and-false}
+use Prim.Native.Nat.{ℕ}
+use Rattle.rounding.specs.declared.Direction.{Direction}
+use Rattle.decimal.specs.declared.Decimal.{Decimal}
+use Rattle.inputs.specs.declared.groups.AirToxicity.{AirToxicity}
+use Rattle.inputs.specs.declared.kind.Inhalation.TheVariants.{Intake, Concentration}
+use Rattle.inputs.specs.declared.kind.Class.TheVariants.{Chemical}
+use Rattle.inputs.specs.Kinds.{class_number}
+use Rattle.inputs.specs.declared.Scenario.{Scenario}
+use Rattle.inputs.specs.declared.Contaminant.{Contaminant}
+use Rattle.formulas.specs.Side.{Side, Risk, Hazard}
+use Rattle.formulas.specs.Target.{working_target}
+use Rattle.formulas.specs.Formula.{table, derived}
+use Rattle.formulas.specs.Term.{present_of, term_of, total_of, values_of}
+use Rattle.guideline_rules.specs.Alike.{Alike}
+use Rattle.guideline_rules.specs.Guideline.{side_of}
+use Rattle.guideline_rules.specs.Inhalation.{with_hours, with_intake, with_air, with_doses}
+use Rattle.guideline_rules.proofs.SameRows.{same, values_by, Each, in_table, alike}
+use Rattle.guideline_rules.proofs.SameRows.Each.{end, next, other}
+
+-- ---- by intake: other hours in the air, and other U and Q, change nothing
+module _ (s : Scenario) (medium : ℕ) (r : Contaminant) (h : Decimal) (x : AirToxicity Decimal) where
+  rows_by_intake : (dir : Direction) (side : Side) →
+      Each dir (values_by Intake dir (with_hours h s) (with_air x r)) (values_by Intake dir s r) medium r.class side (table Intake)
+  unfolding table values_of derived total_of term_of present_of side_of
+  rows_by_intake dir Risk =
+      next (same refl refl (λ t. refl)) (next (same refl refl (λ t. refl)) (next (same refl refl (λ t. refl))
+      (next (same refl refl (λ t. refl)) (next (same refl refl (λ t. refl)) end))))
+  rows_by_intake dir Hazard =
+      next (same refl refl (λ t. refl)) (next (same refl refl (λ t. refl)) (next (same refl refl (λ t. refl))
+      (next (same refl refl (λ t. refl)) (next (same refl refl (λ t. refl)) end))))
+
+  pub by_intake : s.inhalation ≡ Intake → Alike medium (with_hours h s) (with_air x r) s r
+  by_intake i =
+      alike medium (with_hours h s) s (with_air x r) r (λ side. refl) targets refl (λ before. refl)
+      (λ dir side. rw i (in_table dir _ _ medium r.class side Intake (rows_by_intake dir side)))
+    where
+      targets : (side : Side) → working_target (with_hours h s) side ≡ working_target s side
+      targets Risk = refl
+      targets Hazard = refl
+
+-- ---- by concentration: another IRA, and other SFi and RfDi, change nothing of a chemical
+module _ (s : Scenario) (medium : ℕ) (r : Contaminant) (ira sfi rfdi : Decimal) where
+  chemical_rows : (dir : Direction) (side : Side) →
+      Each dir (values_by Concentration dir (with_intake ira s) (with_doses sfi rfdi r)) (values_by Concentration dir s r) medium 1 side (table Concentration)
+  unfolding table values_of derived total_of term_of present_of side_of
+  chemical_rows dir Risk =
+      next (same refl refl (λ t. refl)) (other (and-false _) (next (same refl refl (λ t. refl)) (other (and-false _) (other (and-false _) end))))
+  chemical_rows dir Hazard =
+      next (same refl refl (λ t. refl)) (other (and-false _) (next (same refl refl (λ t. refl)) (other (and-false _) (other (and-false _) end))))
+
+  pub by_concentration : s.inhalation ≡ Concentration → r.class ≡ class_number Chemical → Alike medium (with_intake ira s) (with_doses sfi rfdi r) s r
+  by_concentration i k =
+      alike medium (with_intake ira s) s (with_doses sfi rfdi r) r (λ side. refl) targets refl (λ before. refl)
+      (λ dir side. rw (i, k) (in_table dir _ _ medium 1 side Concentration (chemical_rows dir side)))
+    where
+      targets : (side : Side) → working_target (with_intake ira s) side ≡ working_target s side
+      targets Risk = refl
+      targets Hazard = refl
