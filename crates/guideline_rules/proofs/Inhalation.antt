@@ -1,11 +1,16 @@
 -- What inhalation looks at: by intake nothing looks at A, U and Q; by concentration no chemical looks at IRA, SFi and RfDi; and what is no chemical has
 -- the same by either. By concentration a zero A leaves a chemical no inhalation. Assumes nothing.
-use mathlib.Core.Path.{◌≡◌, refl}
-use mathlib.Core.Bool.{and-false}
+use mathlib.Core.Path.{◌≡◌, refl, sym, ap}
+use mathlib.Core.Bool.{true, false, and-false}
 use Prim.Native.Nat.{ℕ}
+use lib.Dec.{eqb, lit<}
+use borrow.Author.Tests.{ne_eqb}
 use Rattle.rounding.specs.declared.Direction.{Direction}
+use Rattle.rounding.specs.WorkingForm.{nine_of}
 use Rattle.decimal.specs.declared.Decimal.{Decimal}
+use Rattle.decimal.specs.Decimal.{zero_of, working_of}
 use Rattle.inputs.specs.declared.groups.AirToxicity.{AirToxicity}
+use Rattle.inputs.specs.declared.kind.Inhalation.{Inhalation}
 use Rattle.inputs.specs.declared.kind.Inhalation.TheVariants.{Intake, Concentration}
 use Rattle.inputs.specs.declared.kind.Class.TheVariants.{Chemical}
 use Rattle.inputs.specs.Kinds.{class_number}
@@ -13,11 +18,12 @@ use Rattle.inputs.specs.declared.Scenario.{Scenario}
 use Rattle.inputs.specs.declared.Contaminant.{Contaminant}
 use Rattle.formulas.specs.Side.{Side, Risk, Hazard}
 use Rattle.formulas.specs.Target.{working_target}
-use Rattle.formulas.specs.Formula.{table, derived}
-use Rattle.formulas.specs.Term.{present_of, term_of, total_of, values_of}
+use Rattle.formulas.specs.Formula.{A, inhaled_risk, inhaled_hazard, table, pathways_of, derived}
+use Rattle.formulas.specs.Term.{look, present_of, term_of, total_of, values_of, values_for}
+use Rattle.formulas.proofs.Presence.{zero_factor}
 use Rattle.guideline_rules.specs.Alike.{Alike}
 use Rattle.guideline_rules.specs.Guideline.{side_of}
-use Rattle.guideline_rules.specs.Inhalation.{with_hours, with_intake, with_air, with_doses}
+use Rattle.guideline_rules.specs.Inhalation.{with_hours, inhaling, with_intake, with_air, with_doses}
 use Rattle.guideline_rules.proofs.SameRows.{same, values_by, Each, in_table, alike}
 use Rattle.guideline_rules.proofs.SameRows.Each.{end, next, other}
 
@@ -60,3 +66,44 @@ module _ (s : Scenario) (medium : ℕ) (r : Contaminant) (ira sfi rfdi : Decimal
       targets : (side : Side) → working_target (with_intake ira s) side ≡ working_target s side
       targets Risk = refl
       targets Hazard = refl
+
+-- ---- what is no chemical: the same by intake and by concentration
+no_chemical : (r : Contaminant) → (r.class ≡ class_number Chemical → ⊥) → eqb 1 r.class ≡ false
+no_chemical r n = ne_eqb 1 r.class (λ e. n (sym e))
+
+module _ (s : Scenario) (medium : ℕ) (r : Contaminant) (i : Inhalation) (n : r.class ≡ class_number Chemical → ⊥) where
+  -- the rows of the other classes name no inhalation of a chemical
+  other_formulas : (j : Inhalation) (side : Side) → pathways_of i medium r.class side ≡ pathways_of j medium r.class side
+  unfolding pathways_of table
+  other_formulas j Risk = rw (no_chemical r n) (simp (and-false))
+  other_formulas j Hazard = rw (no_chemical r n) (simp (and-false))
+
+  other_classes : (j : Inhalation) (dir : Direction) (side : Side) → Each dir (values_by i dir (inhaling i s) r) (values_by j dir s r) medium r.class side (table j)
+  unfolding table values_of derived total_of term_of present_of side_of
+  other_classes j dir Risk =
+      other (rw (no_chemical r n) (and-false _)) (next (same refl refl (λ t. refl)) (other (rw (no_chemical r n) (and-false _))
+      (next (same refl refl (λ t. refl)) (next (same refl refl (λ t. refl)) end))))
+  other_classes j dir Hazard =
+      other (rw (no_chemical r n) (and-false _)) (next (same refl refl (λ t. refl)) (other (rw (no_chemical r n) (and-false _))
+      (next (same refl refl (λ t. refl)) (next (same refl refl (λ t. refl)) end))))
+
+  pub either_way : Alike medium (inhaling i s) r s r
+  either_way =
+      alike medium (inhaling i s) s r r (other_formulas s.inhalation) targets refl (λ before. refl)
+      (λ dir side. in_table dir _ _ medium r.class side s.inhalation (other_classes s.inhalation dir side))
+    where
+      targets : (side : Side) → working_target (inhaling i s) side ≡ working_target s side
+      targets Risk = refl
+      targets Hazard = refl
+
+-- ---- by concentration a zero A leaves a chemical no inhalation, in soil or in water
+module _ (s : Scenario) (r : Contaminant) (z : s.air_hours ≡ zero_of) where
+  hours_zero : (dir : Direction) → eqb (look (values_for dir s r) A).m 0 ≡ true
+  unfolding values_of derived working_of nine_of
+  hours_zero dir = ap (λ (d : Decimal). eqb (working_of d).m 0) z
+
+  pub no_hours_no_inhalation : (dir : Direction) (air : ℕ) →
+      (term_of (values_for dir s r) dir (inhaled_risk Concentration air) ≡ zero_of) × (term_of (values_for dir s r) dir (inhaled_hazard Concentration air) ≡ zero_of)
+  no_hours_no_inhalation dir air =
+      let vs = values_for dir s r in
+      (zero_factor vs dir (inhaled_risk Concentration air) 3 (lit< tt) (hours_zero dir), zero_factor vs dir (inhaled_hazard Concentration air) 1 (lit< tt) (hours_zero dir))
