@@ -1,7 +1,13 @@
 -- Inhalation by intake and by concentration: the words of the theorems about what each looks at.
+use Rattle.std.specs.Prelude.{◌≡◌, ◌⊎◌, Bool, false, ◌&&◌, ℕ, eqb}
 use Rattle.inputs.specs.declared.groups.AirToxicity.{AirToxicity}
 use Rattle.decimal.specs.declared.Decimal.{Decimal}
 use Rattle.inputs.specs.declared.kind.Inhalation.{Inhalation}
+use Rattle.inputs.specs.declared.kind.Inhalation.TheVariants.{Concentration}
+use Rattle.inputs.specs.declared.kind.Class.TheVariants.{Chemical}
+use Rattle.inputs.specs.declared.kind.Medium.TheVariants.{Soil, Water}
+use Rattle.inputs.specs.Kinds.{medium_number, class_number}
+use Rattle.inputs.specs.Valid.{valid_of}
 use Rattle.inputs.specs.declared.Scenario.{Scenario}
 use Rattle.inputs.specs.declared.Contaminant.{Contaminant}
 
@@ -56,3 +62,17 @@ with_doses sfi rfdi r = record {
   in_air = r.in_air;
   abs = r.abs;
 }
+
+-- U and Q keep their rule
+abbrev pub air_valid : AirToxicity Decimal → Bool
+air_valid x = valid_of x.u && valid_of x.q
+
+-- a chemical by concentration, with the hours in the air
+pub record InhaledByConcentration (s : Scenario) (r : Contaminant) : Type 0 where
+  pub concentration : s.inhalation ≡ Concentration
+  pub chemical : r.class ≡ class_number Chemical
+  pub hours : eqb s.air_hours.m 0 ≡ false
+
+-- what leads from soil or water to the air is known: in soil VF or PEF is, in water it is 0.5
+abbrev pub ToTheAir : ℕ → Scenario → Contaminant → Type 0
+ToTheAir medium s r = ((medium ≡ medium_number Soil) × ((eqb r.transfer.vf.m 0 ≡ false) ⊎ (eqb s.contact.pef.m 0 ≡ false))) ⊎ (medium ≡ medium_number Water)

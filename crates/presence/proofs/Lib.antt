@@ -1,2 +1,3 @@
 pub mod KnownValues
 pub mod SoilOnSkin
+pub mod Inhalation

@@ -10,3 +10,4 @@ pub mod Classes
 pub mod Mapped
 pub mod WithoutSaturation
 pub mod WithoutSkin
+pub mod ByIntake
