@@ -1,12 +1,12 @@
 -- A header or a contaminant that is found has passed every test, and a refused block has a number from 1 to 7. Assumes nothing.
 use mathlib.Core.Path.{◌≡◌, refl, sym, ap, ◌∙◌, subst}
 use mathlib.Core.List.{List}
-use mathlib.Core.Bool.{Bool, true, false, ◌&&◌, not, cond}
+use mathlib.Core.Bool.{Bool, true, false, false≢true, ◌&&◌, ◌||◌, not, cond}
 use Prim.Native.Nat.{ℕ, ◌≤◌, ◌<◌}
 use native.Mathlib.Omega.{arith}
 use lib.ListN.{length}
 use lib.Dec.{eqb, leb}
-use borrow.Author.Tests.{leb-false, not-false}
+use borrow.Author.Tests.{eqb-true, leb-false, not-false}
 use Rattle.outcome.specs.declared.Refusal.{Refusal}
 use Rattle.outcome.specs.declared.Refusal.TheVariants.{Length, Check, Kind, Field, Count, Factor, Order}
 use Rattle.std.specs.Prelude.{Result, Ok, Err}
@@ -14,9 +14,10 @@ use Rattle.outcome.specs.Outcome.{refusal_number, tests_number}
 use Rattle.outcome.proofs.Numbers.{not_both, same_error, refusal_numbered}
 use Rattle.outcome.proofs.Tests.{passed}
 use Rattle.words.specs.Words.{word_at}
-use Rattle.inputs.specs.Kinds.{is_header_kind}
+use Rattle.inputs.specs.Kinds.{header_kind, is_header_kind, inhalation_of}
 use Rattle.inputs.specs.declared.Contaminant.{Contaminant}
-use Rattle.inputs.specs.Inputs.{contaminant_of}
+use Rattle.inputs.specs.declared.kind.Inhalation.TheVariants.{Intake, Concentration}
+use Rattle.inputs.specs.Inputs.{contaminant_of, scenario_of}
 use Rattle.inputs.specs.Rules.{scenario_fits, contaminant_fits, lacks_factor}
 use Rattle.inputs.proofs.Tests.{and_split}
 use Rattle.block_rules.specs.declared.Header.{Header}
@@ -46,24 +47,35 @@ contaminant_facts b place previous r e =
     }
 
 -- ---- a header
+-- its kind is that of what it tells
+kind_of_told : (n : ℕ) → is_header_kind n ≡ true → header_kind (inhalation_of n) ≡ n
+kind_of_told n = cases (eqb n 6) (eqb n 1) refl refl
+  where
+    cases : (a b : Bool) → eqb n 6 ≡ a → eqb n 1 ≡ b → b || a ≡ true → header_kind (cond a Concentration Intake) ≡ n
+    cases true b e f h = sym (eqb-true n 6 e)
+    cases false true e f h = sym (eqb-true n 1 f)
+    cases false false e f h = absurd (false≢true h)
+
 pub record HeaderFacts (b : List ℕ) (blocks : ℕ) (h : Header) : Type 0 where
   pub is : h ≡ header_at (inhalation_in b) b 8
+  pub kind : header_kind h.scenario.inhalation ≡ word_at b 0
   pub valid : scenario_fits h.scenario h.medium ≡ true
   pub count : count_ok h.count blocks ≡ true
   pub factors : lacks_factor h.scenario ≡ false
 
 pub header_facts : (b : List ℕ) (blocks : ℕ) (h : Header) → header_read b blocks ≡ Ok h → HeaderFacts b blocks h
-unfolding header_read header_at
+unfolding header_read header_at scenario_at scenario_of
 header_facts b blocks h e =
     let e₁ = (passed (not (eqb (length b) 512)) Length e).1 in
     let e₂ = (passed (not (sound_at b 0)) Check e₁).1 in
-    let e₃ = (passed (not (is_header_kind (word_at b 0))) Kind e₂).1 in
-    let e₄ = passed (not (scenario_fits (scenario_at (inhalation_in b) b 16) (word_at b 8) && header_unused b 8)) Field e₃ in
+    let e₃ = passed (not (is_header_kind (word_at b 0))) Kind e₂ in
+    let e₄ = passed (not (scenario_fits (scenario_at (inhalation_in b) b 16) (word_at b 8) && header_unused b 8)) Field e₃.1 in
     let e₅ = passed (not (count_ok (word_at b 12) blocks)) Count e₄.1 in
     let e₆ = passed (lacks_factor (scenario_at (inhalation_in b) b 16)) Factor e₅.1 in
     let same : header_at (inhalation_in b) b 8 ≡ h = cc e₆.1 in
     record {
       is = sym same;
+      kind = ap (λ (x : Header). header_kind x.scenario.inhalation) (sym same) ∙ kind_of_told (word_at b 0) (not-false _ e₃.0);
       valid = ap (λ (x : Header). scenario_fits x.scenario x.medium) (sym same) ∙ (and_split (scenario_fits (scenario_at (inhalation_in b) b 16) (word_at b 8)) (header_unused b 8) (not-false _ e₄.0)).0;
       count = ap (λ (x : Header). count_ok x.count blocks) (sym same) ∙ not-false _ e₅.0;
       factors = ap (λ (x : Header). lacks_factor x.scenario) (sym same) ∙ e₆.0;
