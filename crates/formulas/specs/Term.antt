@@ -5,6 +5,7 @@ use Rattle.rounding.specs.Direction.{opposite}
 use Rattle.decimal.specs.declared.Decimal.{Decimal}
 use Rattle.decimal.specs.Decimal.{zero_of, div_of, working_of}
 use Rattle.decimal.specs.Lists.{product_of, summed}
+use Rattle.inputs.specs.declared.kind.Inhalation.{Inhalation}
 use Rattle.inputs.specs.declared.Scenario.{Scenario}
 use Rattle.inputs.specs.declared.Contaminant.{Contaminant}
 use Rattle.inputs.specs.Inputs.{scenario_decimals, formula_decimals}
@@ -50,8 +51,12 @@ constants =
     record { m = 1; e = pos 0 } ∷ (record { m = 1; e = negsuc 5 } ∷ (record { m = 1; e = negsuc 2 } ∷ (record { m = 5; e = negsuc 0 } ∷
     (record { m = 114; e = negsuc 5 } ∷ (record { m = 365; e = pos 0 } ∷ (record { m = 1; e = pos 3 } ∷ (record { m = 24; e = pos 0 } ∷ [])))))))
 
+-- by intake or by concentration, and as the scenario has it
+abbrev pub inputs_by : Inhalation → Scenario → Contaminant → List Decimal
+inputs_by i s r = constants ++ (scenario_decimals s ++ formula_decimals i r)
+
 abbrev pub inputs_of : Scenario → Contaminant → List Decimal
-inputs_of s r = constants ++ (scenario_decimals s ++ formula_decimals s.inhalation r)
+inputs_of s r = inputs_by s.inhalation s r
 
 -- the working forms of the inputs behind a list of values for the factors that are worked out
 abbrev pub values_from : List Decimal → List Decimal → List Decimal

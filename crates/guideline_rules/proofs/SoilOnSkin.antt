@@ -59,11 +59,8 @@ module _ (s : Scenario) (medium : ℕ) (r : Contaminant) (a : Ages Decimal) (d :
   -- whether there is a pathway, the tests of a record, what is calculated and the sums of terms do not look at the ages and at ABS
   pub without_skin : Alike medium (with_ages a s) (with_abs d r) s r
   without_skin =
-      alike medium (with_ages a s) s (with_abs d r) r (λ side. refl) targets refl (λ before. refl) (λ dir side. in_table dir _ _ medium r.class side s.inhalation (other_rows s.inhalation dir side))
-    where
-      targets : (side : Side) → working_target (with_ages a s) side ≡ working_target s side
-      targets Risk = refl
-      targets Hazard = refl
+      alike medium (with_ages a s) s (with_abs d r) r (λ side. refl) refl refl (λ before. refl) (λ g. refl)
+      (λ dir side. in_table dir _ _ medium r.class side s.inhalation (other_rows s.inhalation dir side))
 
 -- ---- a chemical in soil without ABS
 module _ (s : Scenario) (medium : ℕ) (r : Contaminant) (k : ChemicalInSoil medium r) (z : r.abs ≡ zero_of) where

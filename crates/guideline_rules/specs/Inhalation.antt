@@ -23,8 +23,8 @@ with_hours d s = record {
   inhalation = s.inhalation;
 }
 
-abbrev pub inhaling : Inhalation → Scenario → Scenario
-inhaling i s = record {
+abbrev pub with_inhalation : Inhalation → Scenario → Scenario
+with_inhalation i s = record {
   exposure = s.exposure;
   contact = s.contact;
   targets = s.targets;
@@ -35,8 +35,8 @@ inhaling i s = record {
 }
 
 -- the scenario with another IRA
-abbrev pub with_intake : Decimal → Scenario → Scenario
-with_intake d s = record {
+abbrev pub with_ira : Decimal → Scenario → Scenario
+with_ira d s = record {
   exposure = s.exposure;
   contact = record { ir = s.contact.ir; ira = d; pef = s.contact.pef; et = s.contact.et; rf = s.contact.rf; sa = s.contact.sa };
   targets = s.targets;
@@ -47,12 +47,12 @@ with_intake d s = record {
 }
 
 -- the record with other U and Q, and with other SFi and RfDi
-abbrev pub with_air : AirToxicity Decimal → Contaminant → Contaminant
-with_air x r =
+abbrev pub with_toxicity_in_air : AirToxicity Decimal → Contaminant → Contaminant
+with_toxicity_in_air x r =
     record { class = r.class; id = r.id; toxicity = r.toxicity; transfer = r.transfer; c = r.c; saturation = r.saturation; in_air = x; abs = r.abs }
 
-abbrev pub with_doses : Decimal → Decimal → Contaminant → Contaminant
-with_doses sfi rfdi r = record {
+abbrev pub with_inhaled_toxicity : Decimal → Decimal → Contaminant → Contaminant
+with_inhaled_toxicity sfi rfdi r = record {
   class = r.class;
   id = r.id;
   toxicity = record { sfo = r.toxicity.sfo; sfi = sfi; sfx = r.toxicity.sfx; rfdo = r.toxicity.rfdo; rfdi = rfdi };

@@ -4,12 +4,11 @@ use Rattle.decimal.specs.declared.Decimal.{Decimal}
 use Rattle.inputs.specs.declared.groups.Age.{Age}
 use Rattle.inputs.specs.declared.kind.Inhalation.{Inhalation}
 use Rattle.inputs.specs.declared.kind.Inhalation.TheVariants.{Intake, Concentration}
-use Rattle.inputs.specs.Inputs.{scenario_decimals, formula_decimals}
 use Rattle.inputs.specs.declared.Scenario.{Scenario}
 use Rattle.inputs.specs.declared.Contaminant.{Contaminant}
 use Rattle.formulas.specs.Side.{Risk, Hazard}
 use Rattle.formulas.specs.Formula.{Formula, pathways_of, derived}
-use Rattle.formulas.specs.Term.{has_factors, constants}
+use Rattle.formulas.specs.Term.{has_factors, inputs_by}
 
 abbrev pub known_of : Decimal → Bool
 known_of d = not (eqb d.m 0)
@@ -26,7 +25,7 @@ some_known ks (f ∷ fs) = has_factors f.before && (all_known ks f.before && all
 -- what is known of each name, in the order of `values_of`, by intake or by concentration: a factor that is worked out by its parts, an input by its
 -- own decimal
 abbrev pub known_inputs : Inhalation → Scenario → Contaminant → List Bool
-known_inputs i s r = map known_of (constants ++ (scenario_decimals s ++ formula_decimals i r))
+known_inputs i s r = map known_of (inputs_by i s r)
 
 abbrev pub not_yet : List Bool
 not_yet = map (λ (fs : List Formula). false) derived

@@ -19,7 +19,7 @@ use Rattle.inputs.proofs.Tests.{and_split}
 use Rattle.formulas.specs.Side.{Side, Risk, Hazard}
 use Rattle.guideline_rules.specs.Alike.{Alike}
 use Rattle.guideline_rules.specs.Pathway.{record_refusal}
-use Rattle.sum_rules.specs.Replaced.{each_passes}
+use Rattle.sum_rules.specs.EachPasses.{each_passes}
 use Rattle.sum_rules.specs.Share.{Running, start, next, term_sum, used_of, share_of}
 use Rattle.sum_rules.specs.ListCall.{accepted, first_refusal, walk, sums_of}
 

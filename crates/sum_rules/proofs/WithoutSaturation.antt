@@ -9,7 +9,7 @@ use Rattle.inputs.specs.Valid.{valid_of}
 use Rattle.inputs.specs.Rules.{contaminant_fits}
 use Rattle.guideline_rules.specs.Pathway.{has_pathway, record_refusal}
 use Rattle.guideline_rules.specs.Saturation.{without_saturation}
-use Rattle.sum_rules.specs.Replaced.{each_passes}
+use Rattle.sum_rules.specs.EachPasses.{each_passes}
 use Rattle.sum_rules.specs.Share.{term_sum, used_of, share_of}
 use Rattle.sum_rules.specs.ListCall.{sums_of}
 use Rattle.sum_rules.proofs.Mapped.{SameRecord, sums_mapped}

@@ -19,7 +19,7 @@ use Rattle.inputs.specs.Rules.{most_contaminants, one_to, most_medium, scenario_
 use Rattle.inputs.proofs.Tests.{valid_join}
 use Rattle.guideline_rules.specs.Skin.{ChemicalInSoil, with_ages, with_abs}
 use Rattle.guideline_rules.proofs.SoilOnSkin.{without_skin}
-use Rattle.sum_rules.specs.Replaced.{each_passes}
+use Rattle.sum_rules.specs.EachPasses.{each_passes}
 use Rattle.sum_rules.specs.Share.{used_of}
 use Rattle.sum_rules.specs.ListCall.{first_refusal, sums_of}
 use Rattle.sum_rules.proofs.Mapped.{SameRecord, same_record, sums_mapped}

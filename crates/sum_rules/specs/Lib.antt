@@ -5,4 +5,4 @@ pub mod ListCall
 pub mod Steps
 pub mod Promise
 pub mod Example
-pub mod Replaced
+pub mod EachPasses

@@ -1,4 +1,4 @@
--- Lists whose records are replaced by others: the words of the theorems about decimals that a list's answer does not look at.
+-- Each record of a list passes a test: a word of the theorems about decimals that a list's answer does not look at.
 use Rattle.std.specs.Prelude.{Bool, true, ◌&&◌, List, [], ◌∷◌}
 use Rattle.inputs.specs.declared.Contaminant.{Contaminant}
 
