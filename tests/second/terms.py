@@ -36,7 +36,7 @@ WORKED_OUT = {
     "G": ("childSA, childEF, childED / childBW", "adultSA, adultEF, adultED / adultBW"),
 }
 
-# The inhalation of a chemical by the kind of the scenario and by side. AIR stands for its share of the air, which goes by the medium.
+# The inhalation of a chemical by the kind of the scenario and by side. AIR stands for its factor from soil or water to the air, which goes by the medium.
 INHALATION = {
     (INTAKE, RISK): "SFi, IRA, AIR, EF, ED / BW, AT, 365",
     (INTAKE, HAZARD): "IRA, AIR, EF / RfDi, BW, 365",

@@ -22,7 +22,7 @@ use Rattle.inputs.specs.Rules.{scenario_fits, contaminant_fits, lacks_factor}
 use Rattle.inputs.proofs.Tests.{and_split}
 use Rattle.block_rules.specs.declared.Header.{Header}
 use Rattle.block_rules.specs.Rules.{count_ok}
-use Rattle.block_rules.specs.Reading.{inhalation_in, scenario_at, header_at, header_unused, contaminant_at, contaminant_unused, sound_at}
+use Rattle.block_rules.specs.Reading.{is_contaminant_kind, header_in, inhalation_in, scenario_at, header_at, header_unused, contaminant_at, contaminant_unused, sound_at}
 use Rattle.block_rules.specs.Reading.{header_read, contaminant_read, header_value, contaminant_value}
 
 -- ---- a contaminant
@@ -36,7 +36,7 @@ unfolding contaminant_read contaminant_at contaminant_of
 contaminant_facts b place previous r e =
     let e₁ = (passed (not (eqb (length b) 512)) Length e).1 in
     let e₂ = (passed (not (sound_at b place)) Check e₁).1 in
-    let e₃ = (passed (not (eqb (word_at b 0) 2)) Kind e₂).1 in
+    let e₃ = (passed (not (is_contaminant_kind (word_at b 0))) Kind e₂).1 in
     let e₄ = passed (not (contaminant_fits (contaminant_at b 8) && contaminant_unused b 8)) Field e₃ in
     let e₅ = passed (leb (word_at b 12) previous) Order e₄.1 in
     let same : contaminant_at b 8 ≡ r = cc e₅.1 in
@@ -57,7 +57,7 @@ kind_of_told n = cases (eqb n 6) (eqb n 1) refl refl
     cases false false e f h = absurd (false≢true h)
 
 pub record HeaderFacts (b : List ℕ) (blocks : ℕ) (h : Header) : Type 0 where
-  pub is : h ≡ header_at (inhalation_in b) b 8
+  pub is : h ≡ header_in b
   pub kind : header_kind h.scenario.inhalation ≡ word_at b 0
   pub valid : scenario_fits h.scenario h.medium ≡ true
   pub count : count_ok h.count blocks ≡ true
@@ -72,7 +72,7 @@ header_facts b blocks h e =
     let e₄ = passed (not (scenario_fits (scenario_at (inhalation_in b) b 16) (word_at b 8) && header_unused b 8)) Field e₃.1 in
     let e₅ = passed (not (count_ok (word_at b 12) blocks)) Count e₄.1 in
     let e₆ = passed (lacks_factor (scenario_at (inhalation_in b) b 16)) Factor e₅.1 in
-    let same : header_at (inhalation_in b) b 8 ≡ h = cc e₆.1 in
+    let same : header_in b ≡ h = cc e₆.1 in
     record {
       is = sym same;
       kind = ap (λ (x : Header). header_kind x.scenario.inhalation) (sym same) ∙ kind_of_told (word_at b 0) (not-false _ e₃.0);
@@ -97,7 +97,7 @@ unfolding contaminant_read
 contaminant_sent b place previous =
     sent_first (not (eqb (length b) 512)) Length _ (record { least = omega arith; most = omega arith })
     (sent_first (not (sound_at b place)) Check _ (record { least = omega arith; most = omega arith })
-    (sent_first (not (eqb (word_at b 0) 2)) Kind _ (record { least = omega arith; most = omega arith })
+    (sent_first (not (is_contaminant_kind (word_at b 0))) Kind _ (record { least = omega arith; most = omega arith })
     (sent_first (not (contaminant_fits (contaminant_at b 8) && contaminant_unused b 8)) Field _ (record { least = omega arith; most = omega arith })
     (sent_first (leb (word_at b 12) previous) Order (Ok (contaminant_at b 8)) (record { least = omega arith; most = omega arith })
     (λ y e. absurd (not_both e))))))
@@ -110,7 +110,7 @@ header_sent b blocks =
     (sent_first (not (is_header_kind (word_at b 0))) Kind _ (record { least = omega arith; most = omega arith })
     (sent_first (not (scenario_fits (scenario_at (inhalation_in b) b 16) (word_at b 8) && header_unused b 8)) Field _ (record { least = omega arith; most = omega arith })
     (sent_first (not (count_ok (word_at b 12) blocks)) Count _ (record { least = omega arith; most = omega arith })
-    (sent_first (lacks_factor (scenario_at (inhalation_in b) b 16)) Factor (Ok (header_at (inhalation_in b) b 8)) (record { least = omega arith; most = omega arith })
+    (sent_first (lacks_factor (scenario_at (inhalation_in b) b 16)) Factor (Ok (header_in b)) (record { least = omega arith; most = omega arith })
     (λ y e. absurd (not_both e)))))))
 
 -- so its number is never 0

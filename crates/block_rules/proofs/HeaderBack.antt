@@ -25,7 +25,7 @@ use Rattle.fields.proofs.ReadBack.{all_fit}
 use Rattle.block_rules.specs.declared.Header.{Header}
 use Rattle.block_rules.specs.Rules.{in_file, count_ok}
 use Rattle.block_rules.specs.Pieces.{scenario_pieces, header_pieces, words_in, decimals_in}
-use Rattle.block_rules.specs.Reading.{inhalation_in, scenario_at, header_at, header_unused, sound_at, header_read}
+use Rattle.block_rules.specs.Reading.{header_in, inhalation_in, scenario_at, header_at, header_unused, sound_at, header_read}
 use Rattle.outcome.proofs.Tests.{passed}
 use Rattle.std.specs.Prelude.{Result, Ok, ⊤}
 use Rattle.block_rules.proofs.Rules.{in_file_lem}
@@ -139,7 +139,7 @@ module _ (h : Header) (fit : header_fit h ≡ true) (known : lacks_factor h.scen
       ap (λ (j : Inhalation). scenario_fits (scenario_at j hb 16) (word_at hb 8) && header_unused hb 8) told ∙
       ap₂ (λ (x : Header) (y : Bool). scenario_fits x.scenario x.medium && y) read_header_lem unused ∙ ap (λ (x : Bool). x && true) valid
 
-  header_good : header_at (inhalation_in hb) hb 8 ≡ h
+  header_good : header_in hb ≡ h
   header_good = ap (λ (j : Inhalation). header_at j hb 8) told ∙ read_header_lem
 
   pub header_back : header_read hb (h.count + 1) ≡ Ok h

@@ -16,14 +16,14 @@ pub data Piece : Type 0 where
 abbrev pub behind_gap : ℕ → ℕ → ℕ → List Piece
 behind_gap gap n rest = Unused gap ∷ Decimals n ∷ Unused rest ∷ []
 
--- a scenario, from byte 16 on of kind 1, and a contaminant's decimals, from byte 16 on of kind 2
+-- a scenario, from byte 16 on of a header, kind 1 or 6, and a contaminant's decimals, from byte 16 on of kind 2
 abbrev pub scenario_pieces : List Piece
 scenario_pieces = Decimals 20 ∷ behind_gap 16 10 236
 
 abbrev pub value_pieces : List Piece
 value_pieces = Decimals 9 ∷ behind_gap 8 3 388
 
--- kind 1: medium, count, the scenario
+-- a header, kind 1 or 6: medium, count, the scenario
 abbrev pub header_pieces : List Piece
 header_pieces = Word ∷ Word ∷ scenario_pieces
 

@@ -26,6 +26,10 @@ header_at i s at = record { medium = word_at s at; count = word_at s (at + 4); s
 abbrev pub inhalation_in : List ℕ → Inhalation
 inhalation_in b = inhalation_of (word_at b 0)
 
+-- and what the header block b holds
+abbrev pub header_in : List ℕ → Header
+header_in b = header_at (inhalation_in b) b 8
+
 -- its unused bytes are zero
 unfoldable pub header_unused : List ℕ → ℕ → Bool
 header_unused s at = unused_in header_pieces s at
@@ -55,7 +59,7 @@ header_read b blocks =
     (cond (not (scenario_fits (scenario_at (inhalation_in b) b 16) (word_at b 8) && header_unused b 8)) (Err Field)
     (cond (not (count_ok (word_at b 12) blocks)) (Err Count)
     (cond (lacks_factor (scenario_at (inhalation_in b) b 16)) (Err Factor)
-    (Ok (header_at (inhalation_in b) b 8)))))))
+    (Ok (header_in b)))))))
 
 -- the contaminant block b at a place, after the previous id: what it holds, or 2, 3, 4, 7
 unfoldable pub contaminant_read : List ℕ → ℕ → ℕ → Result Contaminant Refusal

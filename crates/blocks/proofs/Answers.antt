@@ -16,7 +16,7 @@ use Rattle.inputs.specs.Inputs.{contaminant_of}
 use Rattle.inputs.specs.Rules.{scenario_fits, contaminant_fits, lacks_factor}
 use Rattle.block_rules.specs.declared.Header.{Header}
 use Rattle.block_rules.specs.Rules.{count_ok}
-use Rattle.block_rules.specs.Reading.{inhalation_in, is_contaminant_kind, scenario_at, header_at, header_unused, contaminant_at, contaminant_unused, sound_at, header_read, contaminant_read}
+use Rattle.block_rules.specs.Reading.{header_in, inhalation_in, is_contaminant_kind, scenario_at, header_at, header_unused, contaminant_at, contaminant_unused, sound_at, header_read, contaminant_read}
 use Rattle.blocks.proofs.Parts.{inner, inner_first, whole, contaminant_part, contaminant_unused_part, header_part, header_unused_part}
 
 -- the first three tests are passed, the third by a block of such a kind
@@ -53,7 +53,7 @@ module _ (s : List ℕ) (at : ℕ) where
 module _ (s : List ℕ) where
   -- its kind, the first word, tells how inhalation is worked out
   pub header_here : (h : Header) {w : ℕ} → w ≡ word_at s 0 → h ≡ header_at (inhalation_of w) (take 504 (drop 4 s)) 4 →
-      h ≡ header_at (inhalation_in (part_of s 0 512)) (part_of s 0 512) 8
+      h ≡ header_in (part_of s 0 512)
   header_here h {w} k e =
       e ∙ ap (λ (p : List ℕ). header_at (inhalation_of w) p 4) (inner_first s) ∙ header_part (part_of s 0 512) (inhalation_of w) ∙
       ap (λ (n : ℕ). header_at (inhalation_of n) (part_of s 0 512) 8) (k ∙ sym (word_first s 0 512 (omega arith)))
@@ -73,7 +73,7 @@ module _ (b : List ℕ) (place previous : ℕ) where
   unfolding contaminant_read
   contaminant_check n s = simp (n, s)
 
-  pub contaminant_kind : eqb (length b) 512 ≡ true → sound_at b place ≡ true → eqb (word_at b 0) 2 ≡ false → Err Kind ≡ contaminant_read b place previous
+  pub contaminant_kind : eqb (length b) 512 ≡ true → sound_at b place ≡ true → is_contaminant_kind (word_at b 0) ≡ false → Err Kind ≡ contaminant_read b place previous
   unfolding contaminant_read
   contaminant_kind n s k = simp (n, s, k)
 
@@ -104,11 +104,11 @@ module _ (b : List ℕ) (blocks : ℕ) where
   unfolding header_read
   header_check n s = simp (n, s)
 
-  pub header_kind : eqb (length b) 512 ≡ true → sound_at b 0 ≡ true → is_header_kind (word_at b 0) ≡ false → Err Kind ≡ header_read b blocks
+  pub header_wrong_kind : eqb (length b) 512 ≡ true → sound_at b 0 ≡ true → is_header_kind (word_at b 0) ≡ false → Err Kind ≡ header_read b blocks
   unfolding header_read
-  header_kind n s k = simp (n, s, k)
+  header_wrong_kind n s k = simp (n, s, k)
 
-  module _ (p : Passed b 0 is_header_kind) (h : Header) (is : h ≡ header_at (inhalation_in b) b 8) where
+  module _ (p : Passed b 0 is_header_kind) (h : Header) (is : h ≡ header_in b) where
     fields_are : (t : Bool) → scenario_fits h.scenario h.medium && header_unused b 8 ≡ t → scenario_fits (scenario_at (inhalation_in b) b 16) (word_at b 8) && header_unused b 8 ≡ t
     unfolding header_at
     fields_are t e = ap (λ (x : Header). scenario_fits x.scenario x.medium && header_unused b 8) (sym is) ∙ e

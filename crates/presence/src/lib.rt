@@ -18,8 +18,8 @@ fn inhaled(s: Scenario, r: Contaminant, air: bool) -> bool
 {
     match s.inhalation {
         Inhalation::Intake => {
-            let dose = (r.toxicity.sfi.m != 0) | (r.toxicity.rfdi.m != 0);
-            (s.contact.ira.m != 0) & air & dose
+            let toxicity = (r.toxicity.sfi.m != 0) | (r.toxicity.rfdi.m != 0);
+            (s.contact.ira.m != 0) & air & toxicity
         }
         Inhalation::Concentration => {
             let toxicity = (r.in_air.u.m != 0) | (r.in_air.q.m != 0);

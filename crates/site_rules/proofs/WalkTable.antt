@@ -25,7 +25,7 @@ use Rattle.inputs.specs.Rules.{scenario_fits, lacks_factor, contaminant_fits}
 use Rattle.inputs.proofs.Tests.{and_split}
 use Rattle.block_rules.specs.declared.Header.{Header}
 use Rattle.block_rules.specs.Rules.{in_file, count_ok}
-use Rattle.block_rules.specs.Reading.{inhalation_in, sound_at, header_at, header_unused, header_read, contaminant_at, contaminant_unused, contaminant_read}
+use Rattle.block_rules.specs.Reading.{is_contaminant_kind, header_in, sound_at, header_at, header_unused, header_read, contaminant_at, contaminant_unused, contaminant_read}
 use Rattle.block_rules.proofs.Rules.{is_block}
 use Rattle.guideline_rules.specs.Pathway.{record_tests, record_refusal}
 use Rattle.sum_rules.specs.Answer.{Sums}
@@ -49,28 +49,28 @@ step on false x y v h = h refl
 
 module _ (b : List ℕ) (f : Refusal → Result Sums Refused) (long : eqb (length b) 512 ≡ true) where
   -- the header: 2 to 6, then what `g` makes of it
-  header_steps : (blocks : ℕ) (g : Header → Result Sums Refused) (v : Result Sums Refused) → (count_ok (header_at (inhalation_in b) b 8).count blocks ≡ true → g (header_at (inhalation_in b) b 8) ≡ v) →
+  header_steps : (blocks : ℕ) (g : Header → Result Sums Refused) (v : Result Sums Refused) → (count_ok (header_in b).count blocks ≡ true → g (header_in b) ≡ v) →
       on_read (header_read b blocks) f g ≡
       cond (not (sound_at b 0)) (f Check)
       (cond (not (is_header_kind (word_at b 0))) (f Kind)
-      (cond (not (scenario_fits (header_at (inhalation_in b) b 8).scenario (header_at (inhalation_in b) b 8).medium && header_unused b 8)) (f Field)
-      (cond (not (count_ok (header_at (inhalation_in b) b 8).count blocks)) (f Count)
-      (cond (lacks_factor (header_at (inhalation_in b) b 8).scenario) (f Factor) v))))
+      (cond (not (scenario_fits (header_in b).scenario (header_in b).medium && header_unused b 8)) (f Field)
+      (cond (not (count_ok (header_in b).count blocks)) (f Count)
+      (cond (lacks_factor (header_in b).scenario) (f Factor) v))))
   unfolding header_read header_at
   header_steps blocks g v h =
       let on : Result Header Refusal → Result Sums Refused = λ x. on_read x f g in
       rw long
       (step on (not (sound_at b 0)) (Err Check) _ _ (λ _.
       step on (not (is_header_kind (word_at b 0))) (Err Kind) _ _ (λ _.
-      step on (not (scenario_fits (header_at (inhalation_in b) b 8).scenario (header_at (inhalation_in b) b 8).medium && header_unused b 8)) (Err Field) _ _ (λ _.
-      step on (not (count_ok (header_at (inhalation_in b) b 8).count blocks)) (Err Count) _ _ (λ e.
-      step on (lacks_factor (header_at (inhalation_in b) b 8).scenario) (Err Factor) (Ok (header_at (inhalation_in b) b 8)) v (λ _. h (not-false _ e)))))))
+      step on (not (scenario_fits (header_in b).scenario (header_in b).medium && header_unused b 8)) (Err Field) _ _ (λ _.
+      step on (not (count_ok (header_in b).count blocks)) (Err Count) _ _ (λ e.
+      step on (lacks_factor (header_in b).scenario) (Err Factor) (Ok (header_in b)) v (λ _. h (not-false _ e)))))))
 
   -- a later block: 2, 3, 4, 7, then what `g` makes of it
   block_steps : (k before : ℕ) (g : Contaminant → Result Sums Refused) (v : Result Sums Refused) → g (contaminant_at b 8) ≡ v →
       on_read (contaminant_read b k before) f g ≡
       cond (not (sound_at b k)) (f Check)
-      (cond (not (eqb (word_at b 0) 2)) (f Kind)
+      (cond (not (is_contaminant_kind (word_at b 0))) (f Kind)
       (cond (not (contaminant_fits (contaminant_at b 8) && contaminant_unused b 8)) (f Field)
       (cond (leb (contaminant_at b 8).id before) (f Order) v)))
   unfolding contaminant_read contaminant_at contaminant_of
@@ -78,7 +78,7 @@ module _ (b : List ℕ) (f : Refusal → Result Sums Refused) (long : eqb (lengt
       let on : Result Contaminant Refusal → Result Sums Refused = λ x. on_read x f g in
       rw long
       (step on (not (sound_at b k)) (Err Check) _ _ (λ _.
-      step on (not (eqb (word_at b 0) 2)) (Err Kind) _ _ (λ _.
+      step on (not (is_contaminant_kind (word_at b 0))) (Err Kind) _ _ (λ _.
       step on (not (contaminant_fits (contaminant_at b 8) && contaminant_unused b 8)) (Err Field) _ _ (λ _.
       step on (leb (contaminant_at b 8).id before) (Err Order) (Ok (contaminant_at b 8)) v (λ _. h)))))
 

@@ -7,7 +7,7 @@ use Rattle.inputs.specs.Rules.{most_contaminants}
 use Rattle.words.specs.Words.{part_of}
 use Rattle.block_rules.specs.declared.Header.{Header}
 use Rattle.block_rules.specs.Rules.{block_size}
-use Rattle.block_rules.specs.Reading.{inhalation_in, header_at, contaminant_at}
+use Rattle.block_rules.specs.Reading.{header_in, contaminant_at}
 use Rattle.formulas.specs.Side.{Risk, Hazard}
 use Rattle.sum_rules.specs.Answer.{Sums}
 use Rattle.sum_rules.specs.Share.{start, run_all}
@@ -23,7 +23,7 @@ block_at site k = part_of site (block_size * k) block_size
 
 -- what the block at place 0 and the one at place k hold
 unfoldable pub header_of : List ℕ → Header
-header_of site = header_at (inhalation_in (block_at site 0)) (block_at site 0) 8
+header_of site = header_in (block_at site 0)
 
 unfoldable pub record_at : List ℕ → ℕ → Contaminant
 record_at site k = contaminant_at (block_at site k) 8

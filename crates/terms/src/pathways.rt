@@ -269,10 +269,10 @@ fn by_concentration(
     let back = dir.opposite();
     let inhaled = product3(product3(t.in_air.u, THOUSAND, air, dir), a, e.ef, dir).mul(e.ed, dir);
     let lifetime = p.averaging.mul(HOURS_PER_DAY, back);
-    let dose = product3(t.in_air.q, DAYS, HOURS_PER_DAY, back);
+    let reference = product3(t.in_air.q, DAYS, HOURS_PER_DAY, back);
     Sides {
         risk: inhaled.div(lifetime, dir),
-        hazard: product3(air, a, e.ef, dir).div(dose, dir),
+        hazard: product3(air, a, e.ef, dir).div(reference, dir),
     }
 }
 

@@ -16,7 +16,7 @@ fn contaminant_fit(place: u32, r: Contaminant) -> bool
     blocks::in_file(place) & inputs::contaminant_fits(r)
 }
 
-// What the writer of kind 1 sends back where so many bytes are lent: 10, 4 for the count, the tests of the scenario.
+// What the writer of a header, of kind 1 or 6, sends back where so many bytes are lent: 10, 4 for the count, the tests of the scenario.
 #[tactic(auto, unfolding(block_rules::specs::Answers::header_refusal, inputs::specs::Rules::scenario_refusal))]
 fn header_refusal(room: usize, h: Header) -> Result<(), Refusal>
     ensures { result ≡ header_refusal room h }

@@ -5,10 +5,10 @@ use Rattle.words.specs.Words.{part_of}
 use Rattle.inputs.specs.declared.kind.Inhalation.{Inhalation}
 use Rattle.inputs.specs.Kinds.{is_header_kind}
 use Rattle.inputs.specs.Rules.{scenario_fits}
-use Rattle.block_rules.specs.Reading.{inhalation_in, header_at, header_unused}
+use Rattle.block_rules.specs.Reading.{header_in, header_at, header_unused}
 use Rattle.blocks.proofs.Parts.{block_fits}
 use Rattle.blocks.proofs.Answers.{Passed, sound_here, kind_here, passed_here, header_here, header_fields_here}
-use Rattle.blocks.proofs.Answers.{header_short, header_check, header_kind, header_field, header_count, header_factor, header_found}
+use Rattle.blocks.proofs.Answers.{header_short, header_check, header_wrong_kind, header_field, header_count, header_factor, header_found}
 use Rattle.blocks.proofs.read_header.Goals as goal
 use Rattle.blocks.proofs.read_header.Goals.{After-header_unused, Else-not-has_block}
 
@@ -30,7 +30,7 @@ passed c =
     passed_here c.args.site.now 0 is_header_kind c.has_block.ensures c.if-not-has_block.false c.sound.ensures c.if-not-sound.false
     c.word-kind.ensures (sym c.is_header_kind.ensures ∙ c.if-not-is_header_kind.false)
 
-is : (c : After-header_unused) → c.get_header-h.result ≡ header_at (inhalation_in (block c)) (block c) 8
+is : (c : After-header_unused) → c.get_header-h.result ≡ header_in (block c)
 is c =
     header_here c.args.site.now c.get_header-h.result c.word-kind.ensures
     (c.get_header-h.ensures ∙ ap (λ (i : Inhalation). header_at i (take 504 (drop 4 c.args.site.now)) 4) c.of.ensures)
@@ -55,7 +55,7 @@ returns-then-not-sound c =
 pub returns-then-not-is_header_kind : goal.returns-then-not-is_header_kind
 returns-then-not-is_header_kind c =
     let here = (goal.at.returns-then-not-is_header_kind c).Else-not-has_block in
-    header_kind (bytes here) c.args.blocks (long here) (sound_here c.args.site.now 0 0 _ c.sound.ensures ∙ c.if-not-sound.false)
+    header_wrong_kind (bytes here) c.args.blocks (long here) (sound_here c.args.site.now 0 0 _ c.sound.ensures ∙ c.if-not-sound.false)
     (kind_here c.args.site.now 0 is_header_kind _ false c.word-kind.ensures (sym c.is_header_kind.ensures ∙ c.if-not-is_header_kind.true))
 
 pub slice_bounds-part-end : goal.slice_bounds-part-end

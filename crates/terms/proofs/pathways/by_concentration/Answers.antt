@@ -59,8 +59,8 @@ mul-inhaled-requires c =
     let ready = c.requires.0 in
     quotient_fits (two_more ready A EF (inhaled3 ready c.requires.1 c.product3.ensures.0) (lit≤ tt) c.product3-2.ensures.0) (lit≤ tt) (input ready ED) (lit≤ tt)
 
-pub product3-dose-requires : goal.product3-dose-requires
-product3-dose-requires c = three_fit c.requires.0 Q Days HoursPerDay
+pub product3-reference-requires : goal.product3-reference-requires
+product3-reference-requires c = three_fit c.requires.0 Q Days HoursPerDay
 
 pub div-requires : goal.div-requires
 div-requires c =
@@ -74,7 +74,7 @@ product3-requires-3 c = let r = middle c.requires.0 in (stands_middle (lit≤ tt
 pub div-requires-2 : goal.div-requires-2
 div-requires-2 c =
     let dividend = breathed3 c.requires.0 c.requires.1 c.product3-3.ensures.0 in
-    let divisor = three_below c.requires.0 Q Days HoursPerDay c.opposite-back.ensures c.product3-dose.ensures.0 in
+    let divisor = three_below c.requires.0 Q Days HoursPerDay c.opposite-back.ensures c.product3-reference.ensures.0 in
     quotient_fits dividend (lit≤ tt) divisor (lit≤ tt)
 
 pub returns : goal.returns
@@ -86,8 +86,8 @@ returns c =
     let inhaled = inhaled6 ready air c.product3.ensures.0 c.product3-2.ensures.0 c.mul-inhaled.ensures.0 in
     let lifetime = lifetime3 ready air c.opposite-back.ensures c.mul-lifetime.ensures.0 in
     let breathed = breathed3 ready air c.product3-3.ensures.0 in
-    let dose = three_below ready Q Days HoursPerDay c.opposite-back.ensures c.product3-dose.ensures.0 in
+    let reference = three_below ready Q Days HoursPerDay c.opposite-back.ensures c.product3-reference.ensures.0 in
     record {
       risk = term_stands ready (inhaled_risk Concentration (air_place c.args.medium)) (lit≤ tt) (stands_div dir inhaled lifetime (lit≤ tt) c.div.ensures.0);
-      hazard = term_stands ready (inhaled_hazard Concentration (air_place c.args.medium)) (lit≤ tt) (stands_div dir breathed dose (lit≤ tt) c.div-2.ensures.0);
+      hazard = term_stands ready (inhaled_hazard Concentration (air_place c.args.medium)) (lit≤ tt) (stands_div dir breathed reference (lit≤ tt) c.div-2.ensures.0);
     }
