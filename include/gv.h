@@ -43,7 +43,7 @@ enum {
     GV_FIELD = 4,     /* a decimal, medium, class, id or unused byte breaks its rule; a writer's count or place; a kind, given
                          as a number, that is not 1 or 6 */
     GV_COUNT = 5,     /* the count is not the number of blocks less one */
-    GV_FACTOR = 6,    /* EF, ED, BW, AT, TR or THI is zero, under either kind; those of child and adult may be */
+    GV_FACTOR = 6,    /* EF, ED, BW, AT, TR or THI is zero, under either kind; a and those of child and adult may be */
     GV_ORDER = 7,     /* an id is not above the one before */
     GV_PATHWAY = 8,   /* a contaminant has no pathway on either side */
     GV_ROOM = 10,     /* the output is too short */

@@ -11,3 +11,4 @@ pub mod Mapped
 pub mod WithoutSaturation
 pub mod WithoutSkin
 pub mod ByIntake
+pub mod ByConcentration
