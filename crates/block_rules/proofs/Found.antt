@@ -76,7 +76,9 @@ header_facts b blocks h e =
     record {
       is = sym same;
       kind = ap (λ (x : Header). header_kind x.scenario.inhalation) (sym same) ∙ kind_of_told (word_at b 0) (not-false _ e₃.0);
-      valid = ap (λ (x : Header). scenario_fits x.scenario x.medium) (sym same) ∙ (and_split (scenario_fits (scenario_at (inhalation_in b) b 16) (word_at b 8)) (header_unused b 8) (not-false _ e₄.0)).0;
+      valid =
+          ap (λ (x : Header). scenario_fits x.scenario x.medium) (sym same) ∙
+          (and_split (scenario_fits (scenario_at (inhalation_in b) b 16) (word_at b 8)) (header_unused b 8) (not-false _ e₄.0)).0;
       count = ap (λ (x : Header). count_ok x.count blocks) (sym same) ∙ not-false _ e₅.0;
       factors = ap (λ (x : Header). lacks_factor x.scenario) (sym same) ∙ e₆.0;
     }

@@ -91,39 +91,13 @@ fn print_factors<W: Write>(output: &mut W, s: Scenario) -> io::Result<()>
     let h = s.house;
     let a = s.ages.child;
     let b = s.ages.adult;
+    let air = s.air_hours;
+    let af = s.ages.af;
     print_all(
         output,
         &[
-            x.ef,
-            x.ed,
-            x.bw,
-            x.at,
-            c.ir,
-            c.ira,
-            c.pef,
-            c.et,
-            c.rf,
-            c.sa,
-            t.tr,
-            t.thi,
-            h.m,
-            h.f,
-            h.n,
-            h.s,
-            h.v,
-            h.l,
-            h.w,
-            h.k,
-            s.air_hours,
-            a.sa,
-            a.ef,
-            a.ed,
-            a.bw,
-            b.sa,
-            b.ef,
-            b.ed,
-            b.bw,
-            s.ages.af,
+            x.ef, x.ed, x.bw, x.at, c.ir, c.ira, c.pef, c.et, c.rf, c.sa, t.tr, t.thi, h.m, h.f,
+            h.n, h.s, h.v, h.l, h.w, h.k, air, a.sa, a.ef, a.ed, a.bw, b.sa, b.ef, b.ed, b.bw, af,
         ],
     )
 }

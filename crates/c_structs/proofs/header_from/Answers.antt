@@ -19,10 +19,12 @@ returns-then-header-ne-STRUCT_SIZE c = rw (sym c.is_header_kind.ensures ∙ c.if
 pub returns-then-not-header_unused : goal.returns-then-not-header_unused
 unfolding header_from header_form scenario_of exposure_of contact_of targets_of house_of age_of ages_of
 returns-then-not-header_unused c =
-    rw (sym c.is_header_kind.ensures ∙ c.if-not-is_header_kind.false, eq-eqb (length c.args.header.now) struct_size c.if-header-ne-STRUCT_SIZE.false, sym c.header_unused.ensures ∙ c.if-not-header_unused.true)
+    let kind = sym c.is_header_kind.ensures ∙ c.if-not-is_header_kind.false in
+    rw (kind, eq-eqb (length c.args.header.now) struct_size c.if-header-ne-STRUCT_SIZE.false, sym c.header_unused.ensures ∙ c.if-not-header_unused.true)
 
 pub returns : goal.returns
 unfolding header_from header_form
 returns c =
-    rw (sym c.is_header_kind.ensures ∙ c.if-not-is_header_kind.false, eq-eqb (length c.args.header.now) struct_size c.if-header-ne-STRUCT_SIZE.false, sym c.header_unused.ensures ∙ c.if-not-header_unused.false)
+    let kind = sym c.is_header_kind.ensures ∙ c.if-not-is_header_kind.false in
+    rw (kind, eq-eqb (length c.args.header.now) struct_size c.if-header-ne-STRUCT_SIZE.false, sym c.header_unused.ensures ∙ c.if-not-header_unused.false)
     (c.get_header.ensures ∙ ap (λ (i : Inhalation). header_at i c.args.header.now 0) c.of.ensures)
