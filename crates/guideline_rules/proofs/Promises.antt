@@ -1,5 +1,5 @@
 -- Demand 3, first sentence, for every accepted call and each side. Assumes nothing.
-use mathlib.Core.Path.{◌≡◌, refl, sym, ap, subst, ◌∙◌}
+use mathlib.Core.Path.{◌≡◌, refl, sym, ap, ◌∙◌}
 use mathlib.Core.Bool.{Bool, true, false, false≢true, cond, not}
 use mathlib.Core.List.{List}
 use Prim.Native.Nat.{ℕ, zero, suc, ◌+◌, ◌*◌, ◌≤◌, ◌<◌}
@@ -49,7 +49,7 @@ use Rattle.guideline_rules.proofs.Accepted.{Accepted, target_known, values_of_le
 use Rattle.guideline_rules.specs.Pathway.{record_refusal}
 use Rattle.guideline_rules.specs.Guideline.{side_of, calculated_of, guidelines_of, is_capped, both_sides, guidelines_sent, guideline_of}
 use Rattle.guideline_rules.specs.Promise.{pathway_at, Kept, Promised, PathwayPromised}
-use Rattle.guideline_rules.proofs.Saturation.{as_calculated, same_but_inhalation, capped_value, inhalation_promise}
+use Rattle.guideline_rules.proofs.Saturation.{as_calculated, capped_value, inhalation_promise}
 use Rattle.guideline_rules.proofs.WorkedOut.{total_bounds, present_total}
 
 -- ---- nineteen roundings are less than 2/10,000,000
@@ -137,10 +137,7 @@ module _ (s : Scenario) (medium : ℕ) (r : Contaminant) (a : Accepted s medium 
   -- ---- the promise of the total and of each pathway
   total_promise : (side : Side) → Promised (guidelines_of s medium r side).total (given (target_of s side)) (any_present qs (pathways side)) (exact_total qs (pathways side))
   unfolding side_of
-  total_promise side =
-      subst (λ (d : Decimal). Promised d (given (target_of s side)) (any_present qs (pathways side)) (exact_total qs (pathways side)))
-      (sym (same_but_inhalation medium r (calculated_of s medium r side)).total)
-      (promised (target_bounds side) (any_present qs (pathways side)) (total_fairly side) (total_there side))
+  total_promise side = promised (target_bounds side) (any_present qs (pathways side)) (total_fairly side) (total_there side)
 
   -- of the calculated guideline of any pathway
   calculated_promise : (side : Side) (n : ℕ) →

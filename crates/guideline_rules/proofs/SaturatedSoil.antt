@@ -18,7 +18,7 @@ use Rattle.formulas.specs.Sides.{side_at}
 use Rattle.guideline_rules.specs.Pathway.{has_pathway, record_refusal}
 use Rattle.guideline_rules.specs.Saturation.{has_saturation, SaturationCounts, Replaced, without_saturation, SameButInhalation}
 use Rattle.guideline_rules.specs.Guideline.{side_of, calculated_of, is_capped, guidelines_sent, guideline_of}
-use Rattle.guideline_rules.proofs.Saturation.{same_but_inhalation, counted, counts, above, saturation_worth, capped_worth}
+use Rattle.guideline_rules.proofs.Saturation.{counted, counts, above, saturation_worth, capped_worth}
 use Rattle.guideline_rules.proofs.Promises.{accepted_of, side_is, inhalation, saturation_valid}
 
 not_counted : (medium : ℕ) (r : Contaminant) → (SaturationCounts medium r → ⊥) → has_saturation medium r ≡ false
@@ -42,7 +42,8 @@ module _ (s : Scenario) (medium : ℕ) (r : Contaminant) where
   module _ (z : number_of (guideline_of s medium r) ≡ 0) (side : Side) where
     -- ingestion, pathway 3 and the total are as calculated, whatever the saturation
     pub others_as_calculated : SameButInhalation (side_at (guidelines_sent (guideline_of s medium r)) side) (calculated_of s medium r side)
-    others_as_calculated = rw (side_is s medium r z side) (same_but_inhalation medium r (calculated_of s medium r side))
+    unfolding side_of
+    others_as_calculated = rw (side_is s medium r z side) (record { first = refl; third = refl; total = refl })
 
     -- and so is inhalation in water, of what is no chemical, and without a saturation
     pub saturation_ignored : (SaturationCounts medium r → ⊥) → side_at (guidelines_sent (guideline_of s medium r)) side ≡ calculated_of s medium r side

@@ -24,8 +24,7 @@ use Rattle.inputs.specs.Valid.{valid_of}
 use Rattle.inputs.proofs.Tests.{and_split, valid_small}
 use Rattle.formulas.specs.Limits.{input_range}
 use Rattle.formulas.proofs.ValueBounds.{valid_fair}
-use Rattle.guideline_rules.specs.declared.SideGuidelines.{SideGuidelines}
-use Rattle.guideline_rules.specs.Saturation.{has_saturation, above_saturation, capped, capped_side, SaturationCounts, SameButInhalation}
+use Rattle.guideline_rules.specs.Saturation.{has_saturation, above_saturation, capped, SaturationCounts}
 use Rattle.guideline_rules.specs.Promise.{Promised, PathwayPromised}
 
 -- a guideline that is not capped promises both bounds
@@ -113,7 +112,3 @@ module _ (r : Contaminant) (valid : valid_of r.saturation ≡ true) where
         cases : (b : Bool) → at_most_of g saturation ≡ b → value_of (cond b g saturation) ≡ min (value_of g) (value_of r.saturation)
         cases true e = let l = leb-true (value_of g) (value_of saturation) (sym compared ∙ e) in omega (arith, l, saturation_worth)
         cases false e = let l = leb-false (value_of g) (value_of saturation) (sym compared ∙ e) in omega (arith, l, saturation_worth)
-
--- the cap leaves all but inhalation as calculated
-pub same_but_inhalation : (medium : ℕ) (r : Contaminant) (g : SideGuidelines) → SameButInhalation (capped_side medium r g) g
-same_but_inhalation medium r g = record { first = refl; third = refl; total = refl }

@@ -29,8 +29,8 @@ module _ (s : Scenario) (medium : ℕ) (i : s.inhalation ≡ Concentration) (ira
   unfolding used_of
   each_same r v =
       let a = and_split (is_class Chemical r) _ v in
-      same_record medium (with_ira ira s) s (with_inhaled_toxicity sfi rfdi r) r (alike_by_concentration s medium r ira sfi rfdi i (eqb-true r.class 1 a.0)) (λ dir. refl)
-      (doses_fit s medium ira sfi rfdi r valid a.1) refl (λ before. refl)
+      same_record (with_ira ira s) s (with_inhaled_toxicity sfi rfdi r) r (alike_by_concentration s medium r ira sfi rfdi i (eqb-true r.class 1 a.0))
+      (doses_fit s medium ira sfi rfdi r valid a.1) refl (λ before. refl) (λ dir. refl)
 
   pub sums_by_concentration : (rs : List Contaminant) → valid_of ira ≡ true → valid_of s.contact.ira ≡ true → each_passes valid_chemical rs ≡ true →
       sums_of (with_ira ira s) medium (map (with_inhaled_toxicity sfi rfdi) rs) ≡ sums_of s medium rs
@@ -43,7 +43,7 @@ module _ (s : Scenario) (medium : ℕ) (i : s.inhalation ≡ Concentration) (ira
 module _ (s : Scenario) (medium : ℕ) (i : Inhalation) where
   itself : (r : Contaminant) → other_class r ≡ true → SameRecord (with_inhalation i s) s medium r r
   itself r v =
-      same_record medium (with_inhalation i s) s r r (alike_either_way s medium r i (λ e. absurd (false≢true (sym (not-true _ v) ∙ eq-eqb r.class 1 e)))) (λ dir. refl) refl refl (λ before. refl)
+      same_record (with_inhalation i s) s r r (alike_either_way s medium r i (λ e. absurd (false≢true (sym (not-true _ v) ∙ eq-eqb r.class 1 e)))) refl refl (λ before. refl) (λ dir. refl)
 
   as_it_is : (rs : List Contaminant) → map (λ (r : Contaminant). r) rs ≡ rs
   as_it_is [] = refl

@@ -24,7 +24,7 @@ module _ (s : Scenario) (medium : ℕ) (i : s.inhalation ≡ Intake) (h : Decima
   module _ (valid : air_valid x ≡ true) where
     each_same : (r : Contaminant) → air_valid r.in_air ≡ true → SameRecord (with_hours h s) s medium (with_toxicity_in_air x r) r
     unfolding used_of
-    each_same r v = same_record medium (with_hours h s) s (with_toxicity_in_air x r) r (alike_by_intake s medium r h x i) (λ dir. refl) (air_fits s medium h x r valid v) refl (λ before. refl)
+    each_same r v = same_record (with_hours h s) s (with_toxicity_in_air x r) r (alike_by_intake s medium r h x i) (air_fits s medium h x r valid v) refl (λ before. refl) (λ dir. refl)
 
     pub sums_by_intake : (rs : List Contaminant) → valid_of h ≡ true → valid_of s.air_hours ≡ true →
         each_passes (λ (r : Contaminant). air_valid r.in_air) rs ≡ true → sums_of (with_hours h s) medium (map (with_toxicity_in_air x) rs) ≡ sums_of s medium rs

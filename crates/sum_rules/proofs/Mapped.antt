@@ -32,27 +32,20 @@ pub record SameRecord (u s : Scenario) (medium : ℕ) (q r : Contaminant) : Type
   pub step : (side : Side) (t : Running) → next u medium side t q ≡ next s medium side t r
 
 -- as it does where nothing that differs between them is looked at
-module _ (medium : ℕ) (u s : Scenario) (q r : Contaminant) (a : Alike medium u q s r) (used : (dir : Direction) → used_of q dir ≡ used_of r dir) where
-  sums_same : (dir : Direction) (side : Side) → term_sum u medium q dir side ≡ term_sum s medium r dir side
-  unfolding term_sum
-  sums_same dir side = a.total dir side
-
-  shares_same : (dir : Direction) (side : Side) → share_of u medium q dir side ≡ share_of s medium r dir side
-  unfolding share_of
-  shares_same dir side = λ i. mul_of (used dir i) (sums_same dir side i) dir
-
-  pub same_record : contaminant_fits q ≡ contaminant_fits r → q.id ≡ r.id → ((before : Earlier) → before_next before q ≡ before_next before r) → SameRecord u s medium q r
-  same_record fits id behind = record {
-    fits = fits;
-    id = id;
-    behind = behind;
-    refusal = a.refusal;
-    step = λ side t i. record {
-      lower = add_of t.lower (shares_same Down side i) Down;
-      upper = add_of t.upper (shares_same Up side i) Up;
-      any = t.any || a.pathway side i;
-    };
-  }
+pub same_record : {medium : ℕ} (u s : Scenario) (q r : Contaminant) → Alike medium u q s r → contaminant_fits q ≡ contaminant_fits r → q.id ≡ r.id →
+    ((before : Earlier) → before_next before q ≡ before_next before r) → ((dir : Direction) → used_of q dir ≡ used_of r dir) → SameRecord u s medium q r
+unfolding share_of term_sum
+same_record u s q r a fits id behind used = record {
+  fits = fits;
+  id = id;
+  behind = behind;
+  refusal = a.refusal;
+  step = λ side t i. record {
+    lower = add_of t.lower (mul_of (used Down i) (a.total Down side i) Down) Down;
+    upper = add_of t.upper (mul_of (used Up i) (a.total Up side i) Up) Up;
+    any = t.any || a.pathway side i;
+  };
+}
 
 -- where each record does that passes a test
 module _ (u s : Scenario) (medium : ℕ) (g : Contaminant → Contaminant) (test : Contaminant → Bool)

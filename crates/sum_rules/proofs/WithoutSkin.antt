@@ -34,7 +34,7 @@ module _ (s : Scenario) (medium : ℕ) (water : medium ≡ medium_number Soil �
 
     each_same : (r : Contaminant) → valid_of r.abs ≡ true → SameRecord (with_ages a s) s medium (with_abs d r) r
     unfolding used_of
-    each_same r h = same_record medium (with_ages a s) s (with_abs d r) r (without_skin s medium r a d (not_soil r)) (λ dir. refl) (fits_same r h) refl (λ before. refl)
+    each_same r h = same_record (with_ages a s) s (with_abs d r) r (without_skin s medium r a d (not_soil r)) (fits_same r h) refl (λ before. refl) (λ dir. refl)
 
     -- the scenario's other decimals, and those of the ages
     scenario_same : all_valid (ages_decimals a) ≡ true → all_valid (ages_decimals s.ages) ≡ true → scenario_fits (with_ages a s) medium ≡ scenario_fits s medium
