@@ -4,7 +4,7 @@
 // too. Each case prints a line: the number of its call, and what came back. The crates value_calls and writer_calls run the calls.
 #![tactic(auto)]
 
-use input_bytes::{next_word, run_cases};
+use input_bytes::{next_word, read_full, run_cases};
 use std::io::{self, Read, Write};
 use value_calls::{run_built_in, run_decimals, run_guideline, run_list};
 use writer_calls::run_writer;
@@ -29,12 +29,18 @@ fn run_call<R: Read, W: Write>(
     output.write_all(b"\n")
 }
 
-// Reads a case and runs it. False when the input has no whole case left.
+// Reads a case and runs it. False when the input has no whole case left. The three words are read at once: an input that ends
+// before them is asked once, and not once for each.
 fn next_case<R: Read, W: Write>(input: &mut R, output: &mut W) -> io::Result<bool> {
+    let mut head = [0u8; 12];
+    if read_full(input, &mut head)? < 12 {
+        return Ok(false);
+    }
+    let mut given = &head[..];
     let (Some(call), Some(argument), Some(count)) = (
-        next_word(input)?,
-        next_word(input)?,
-        next_word(input)?,
+        next_word(&mut given)?,
+        next_word(&mut given)?,
+        next_word(&mut given)?,
     ) else {
         return Ok(false);
     };

@@ -31,9 +31,9 @@ pub fn read_contaminant<R: Read>(input: &mut R) -> io::Result<Contaminant> {
 // The first `count` contaminants of a list; those after them are of zeros.
 #[derive(Clone, Copy)]
 pub struct Records {
-    list: [Contaminant; 121],
-    count: usize,
-    ghost within: { count ≤ 121 },
+    pub list: [Contaminant; 121],
+    pub count: usize,
+    pub ghost within: { count ≤ 121 },
 }
 
 // The contaminants in the next n blocks.

@@ -8,9 +8,15 @@ use input_bytes::{next_word, read_full, run_cases};
 use site_calls::run_case;
 use std::io::{self, Read, Write};
 
-// Reads a case and runs it. False when the input has no whole case left.
+// Reads a case and runs it. False when the input has no whole case left. Both lengths are read at once: an input that ends
+// before them is asked once, and not once for each.
 fn next_case<R: Read, W: Write>(input: &mut R, output: &mut W) -> io::Result<bool> {
-    let (Some(n), Some(m)) = (next_word(input)?, next_word(input)?) else {
+    let mut head = [0u8; 8];
+    if read_full(input, &mut head)? < 8 {
+        return Ok(false);
+    }
+    let mut given = &head[..];
+    let (Some(n), Some(m)) = (next_word(&mut given)?, next_word(&mut given)?) else {
         return Ok(false);
     };
     let n = n as usize;

@@ -4,10 +4,21 @@
 ghost use Rattle.std.specs.Prelude.{◌≡◌};
 ghost use Rattle.text.specs.Text.{put, HasRoom};
 ghost use Rattle.listing_rules.specs.Lines.{side_word, verdict_word, mark_of};
+ghost use Rattle.spelling.specs.Numbered.{side_numbered};
 
 use listing_rules::Side;
 use sum_rules::Verdict;
 use text::Text;
+
+// The side of a number, for callers that have a number: 0 risk, any other hazard.
+pub fn side_of(n: u32) -> Side
+    ensures { result ≡ side_numbered n }
+{
+    if n == 0 {
+        return Side::Risk;
+    }
+    Side::Hazard
+}
 
 // The word of a side.
 pub fn put_side(text: &mut Text, side: Side)

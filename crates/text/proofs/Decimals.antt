@@ -14,12 +14,17 @@ use Rattle.decimal.specs.Exponent.{raised}
 use Rattle.decimal.proofs.Bias.{raised_bounds}
 use Rattle.text.specs.Numbers.{digit, last_digits, number_text}
 use Rattle.text.specs.Decimals.{digits_text, exponent_text, decimal_text, or_else}
-use Rattle.text.proofs.Numbers.{number_one, number_more, number_short, tenth_short, last_none, last_more, last_length}
+use Rattle.text.proofs.Numbers.{number_one, number_more, number_short, tenth_short, last_length}
 
 -- ---- the nine digits: the first, a point, and the last eight
 pub digits_are : (m : ℕ) → digits_text m ≡ digit (m / 100000000 % 10) ∷ (46 ∷ last_digits 8 m)
 unfolding digits_text last_digits
 digits_are m = simp div-div-eq-div-mul
+
+-- the last eight are two times four
+pub digits_fours : (m : ℕ) → digits_text m ≡ digit (m / 100000000 % 10) ∷ (46 ∷ (last_digits 4 (m / 10000) ++ last_digits 4 m))
+unfolding digits_text last_digits
+digits_fours m = simp div-div-eq-div-mul
 
 pub digits_length : (m : ℕ) → length (digits_text m) ≡ 10
 unfolding digits_text
@@ -70,4 +75,4 @@ decimal_short mark d = cases (eqb d.m 0)
     cases false = simp length-append (omega (arith, digits_length d.m, exponent_short (raised d.e) (raised_small d.e)))
 
 -- what the check has to know of the texts, in order that it finds the proofs of the functions alone
-pub ruleset decimals = (number_one, number_more, tenth_short, last_none, last_more, last_length, digits_are, exponent_below, exponent_above, digits_length, decimal_zero, decimal_other)
+pub ruleset decimals = (number_one, number_more, tenth_short, last_length, digits_fours, exponent_below, exponent_above, digits_length, decimal_zero, decimal_other)

@@ -3,7 +3,7 @@ use mathlib.Core.Path.{◌≡◌, refl, sym, ap, ◌∙◌}
 use mathlib.Core.List.{List, [], ◌∷◌, ◌++◌}
 use mathlib.Core.Bool.{Bool, true, false, cond}
 use Prim.Native.Nat.{ℕ, zero, suc, ◌-◌, ◌*◌, ◌^◌, ◌/◌, ◌%◌, ◌≤◌, ◌<◌}
-use native.Mathlib.Nat.{pow-suc}
+use native.Mathlib.Nat.{pow-suc, div-div-eq-div-mul}
 use native.Mathlib.Numerals.{sub-one}
 use native.Mathlib.Omega.{arith}
 use lib.ListN.{length, length-append}
@@ -85,3 +85,8 @@ pub last_length : (k n : ℕ) → length (last_digits k n) ≡ k
 unfolding last_digits
 last_length zero n = refl
 last_length (suc k) n = simp (length-append, last_length k (n / 10)) (omega arith)
+
+-- four of them, each by its weight
+pub four_are : (n : ℕ) → last_digits 4 n ≡ digit (n / 1000 % 10) ∷ (digit (n / 100 % 10) ∷ (digit (n / 10 % 10) ∷ (digit (n % 10) ∷ [])))
+unfolding last_digits
+four_are n = simp div-div-eq-div-mul

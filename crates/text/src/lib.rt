@@ -48,21 +48,25 @@ impl Text<'_> {
         requires { HasRoom self.old 10 }
         ensures { self.new ≡ put self.old (number_text n) }
     {
-        if n >= 10 {
-            self.put_number(n / 10);
+        if n < 10 {
+            self.put_byte(b'0' + n as u8);
+            return;
         }
+        self.put_number(n / 10);
         self.put_byte(last_digit(n));
     }
 
-    // So many last digits of n, with leading zeros.
-    fn put_last(&mut self, n: u32, count: u32)
-        requires { HasRoom self.old count }
-        ensures { self.new ≡ put self.old (last_digits count n) }
+    // The last four digits of n, with leading zeros, at their places.
+    fn put_four(&mut self, n: u32)
+        requires { HasRoom self.old 4 }
+        ensures { self.new ≡ put self.old (last_digits 4 n) }
     {
-        if count > 0 {
-            self.put_last(n / 10, count - 1);
-            self.put_byte(last_digit(n));
-        }
+        let at = self.at;
+        self.out[at] = last_digit(n / 1000);
+        self.out[at + 1] = last_digit(n / 100);
+        self.out[at + 2] = last_digit(n / 10);
+        self.out[at + 3] = last_digit(n);
+        self.at = at + 4;
     }
 
     // The last nine digits of m, a point after the first.
@@ -72,7 +76,8 @@ impl Text<'_> {
     {
         self.put_byte(last_digit(m / 100000000));
         self.put_byte(b'.');
-        self.put_last(m, 8);
+        self.put_four(m / 10000);
+        self.put_four(m);
     }
 
     // E, a sign and the size of e + 8, where x is e counted from -3000.
